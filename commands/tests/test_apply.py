@@ -56,11 +56,11 @@ class Plans(Case):
         self.assertNotIn(b"Traceback", done.messages)
 
     def test_a_state_that_facl_apply_did_not_write(self) -> None:
-        """What is done is not known, so nothing is touched."""
+        """What is done is not known, so nothing was changed."""
         for text in (b"", b"applying", b"undone in part", b"done\n", b"applied\napplied\n"):
             self.write("before.plan/state", text)
             os.chmod(self.path("before.plan/state"), 0o600)
-            self.refused("/state: is not as facl-apply wrote it, so it is not known what was done: compare the files with old and new of "
+            self.refused("/state: is not what facl apply wrote, so it is not known what was done: compare the files with old and new of "
                          "the plan, and make another plan")
         os.unlink(self.path("before.plan/state"))
 
@@ -93,7 +93,7 @@ class Plans(Case):
             os.unlink(self.path("other name"))
             os.rename(place, self.path("kept"))
             os.mkfifo(place, 0o600)
-            self.refused("/%s: is no plain file, so it is not trusted" % name)
+            self.refused("/%s: is not a regular file, so it is not trusted" % name)
             os.unlink(place)
             os.rename(self.path("kept"), place)
 
@@ -130,12 +130,12 @@ class Plans(Case):
         return os.fsencode(os.path.join(os.path.realpath(self.folder), name))
 
     def test_no_plan(self) -> None:
-        self.expect_unusable(self.whole("before") + b": is no plan: make one by facl-plan", "before")
-        self.expect_unusable(self.whole("absent") + b": is no plan: make one by facl-plan", "absent")
+        self.expect_unusable(self.whole("before") + b": is not a plan; make one with facl plan", "before")
+        self.expect_unusable(self.whole("absent") + b": is not a plan; make one with facl plan", "absent")
 
     def test_another_version(self) -> None:
         self.write("before.plan/plan", b"facl-plan 1\n")
-        self.expect_unusable(self.whole("before.plan") + b": is a plan of another version: make it again by facl-plan", "before.plan")
+        self.expect_unusable(self.whole("before.plan") + b": is a plan of another version of facl; make it again with facl plan", "before.plan")
 
     def test_damaged_files(self) -> None:
         text = self.read("before.plan/files")
@@ -166,10 +166,10 @@ class Plans(Case):
             damaged.append(json.dumps(fields).encode())
         for it in damaged:
             self.write("before.plan/files", it)
-            self.expect_unusable(self.whole("before.plan/files") + b": is not as facl-plan wrote it: make the plan again", "before.plan")
+            self.expect_unusable(self.whole("before.plan/files") + b": is not what facl plan wrote; make the plan again", "before.plan")
         os.unlink(self.path("before.plan/files"))
         os.mkdir(self.path("before.plan/files"), 0o700)
-        self.expect_unusable(self.whole("before.plan/files") + b": is no plain file, so it is not trusted", "before.plan")
+        self.expect_unusable(self.whole("before.plan/files") + b": is not a regular file, so it is not trusted", "before.plan")
         os.rmdir(self.path("before.plan/files"))
         self.expect_unusable(self.whole("before.plan/files") + b": No such file or directory", "before.plan")
 
@@ -207,12 +207,12 @@ class Plans(Case):
                 made.bind(place)
 
         makers: Dict[str, Callable[[], object]] = {
-            "is no plain file, so it is not trusted": lambda: os.mkfifo(place, 0o600),
+            "is not a regular file, so it is not trusted": lambda: os.mkfifo(place, 0o600),
             "Too many levels of symbolic links": lambda: os.symlink(kept, place),
             "No such device or address": bind,
         }
         if os.geteuid() == 0:
-            makers["is no plain file"] = lambda: os.mknod(place, stat.S_IFCHR | 0o600, os.makedev(1, 5))
+            makers["is not a regular file"] = lambda: os.mknod(place, stat.S_IFCHR | 0o600, os.makedev(1, 5))
         for text, make in makers.items():
             make()
             self.refused("/files: " + text)
@@ -228,13 +228,13 @@ class Plans(Case):
 
     def test_nothing_to_do(self) -> None:
         folder = self.whole("before.plan")
-        self.expect(self.apply("--undo", "before.plan"), 3, b"", b"facl-apply: " + folder + b": is not applied, so there is nothing to undo\n")
+        self.expect(self.apply("--undo", "before.plan"), 3, b"", b"facl-apply: " + folder + b": was not applied; there is nothing to undo\n")
         self.write("before.plan/state", b"applied\n")
         os.chmod(self.path("before.plan/state"), 0o600)
-        self.expect(self.apply("before.plan"), 3, b"", b"facl-apply: " + folder + b": is applied already; --undo takes it back\n")
+        self.expect(self.apply("before.plan"), 3, b"", b"facl-apply: " + folder + b": was applied already; facl undo takes it back\n")
         self.assertEqual(self.plan(b"gpasswd -a guest audit\n", "--plan", "other").status, 0)
         self.expect(self.apply("other"), 3, b"still to be done by hand: sh " + self.whole("other/by_hand") + b"\n",
-                    b"facl-apply: " + self.whole("other") + b": has no records to change\n")
+                    b"facl-apply: " + self.whole("other") + b": changes no file\n")
 
     def test_by_hand(self) -> None:
         """It is named until all of it is done, and by_hand_undo as long as something of that is not taken back."""
@@ -254,11 +254,11 @@ class Plans(Case):
         os.unlink(self.path("before.plan/by_hand_undo"))
         os.mkdir(self.path("before.plan/by_hand_undo"), 0o700)
         done = self.apply("--undo", "before.plan")
-        self.assertEqual((done.status, done.out), (3, self.whole("before.plan/by_hand_undo") + b": is no plain file, so it is not trusted\n"))
+        self.assertEqual((done.status, done.out), (3, self.whole("before.plan/by_hand_undo") + b": is not a regular file, so it is not trusted\n"))
 
     def test_files_that_are_not_there(self) -> None:
         done = self.apply("before.plan")
-        folder = b"facl-apply: 2 files are not as in the snapshot, so nothing is touched: make a new snapshot and a new plan\n"
+        folder = b"facl-apply: nothing was changed: 2 files are not as in the snapshot; make a new snapshot and a new plan\n"
         self.expect(done, 1, b"", b"facl-apply: /srv/share/one: is gone\nfacl-apply: /srv/share/two: is gone\n" + folder)
         self.assertFalse(os.path.exists(self.path("before.plan/state")))
 
@@ -286,13 +286,13 @@ class ThereAndBack(Tree):
         self.planned(b"chmod 4711 " + self.word("a"), b"chmod 1777 " + self.word("d"), b"chmod 604 " + self.word("d/e"))
         done = self.apply("--dry-run")
         out = b"".join(b"would change %s: %s\n" % (self.live(name), what) for name, what in (
-            ("a", b"flags, access list"), ("d", b"flags, access list"), ("d/e", b"access list")))
+            ("a", b"flags, access ACL"), ("d", b"flags, access ACL"), ("d/e", b"access ACL")))
         self.expect(done, 0, out)
         self.assertEqual(self.modes(), before)
-        self.expect(self.apply(), 0, b"3 files are as planned\n")
+        self.expect(self.apply(), 0, b"changed 3 files\n")
         self.assertEqual(self.modes(), {**before, "a": 0o4711, "d": 0o1777, "d/e": 0o604})
         self.assertEqual(self.read("before.plan/state"), b"applied\n")
-        self.expect(self.apply("--undo"), 0, b"3 files are as before\n")
+        self.expect(self.apply("--undo"), 0, b"restored 3 files\n")
         self.assertEqual(self.modes(), before)
         self.assertEqual(self.read("before.plan/state"), b"undone\n")
 
@@ -300,8 +300,8 @@ class ThereAndBack(Tree):
         self.planned(b"chmod 600 " + self.word("a") + b" " + self.word("b"))
         os.chmod(os.path.join(self.tree, "b"), 0o644)
         before = self.modes()
-        lines = [self.live("b") + b": was changed: access list", b"    other:: --- in the snapshot, r-- now",
-                 b"1 file is not as in the snapshot, so nothing is touched: make a new snapshot and a new plan"]
+        lines = [self.live("b") + b": was changed: access ACL", b"    other:: --- in the snapshot, r-- now",
+                 b"nothing was changed: 1 file is not as in the snapshot; make a new snapshot and a new plan"]
         self.expect(self.apply(), 1, b"", b"".join(b"facl-apply: " + line + b"\n" for line in lines))
         self.assertEqual(self.modes(), before)
 
@@ -310,7 +310,7 @@ class ThereAndBack(Tree):
         old = acl_bytes.Record(70001, 4, 0o1000, acl_bytes.minimal(0o640), b"")
         entries = {**acl_bytes.entries_of(acl_bytes.minimal(0o604)), (acl_bytes.USER, 70009): 6, (acl_bytes.MASK, acl_bytes.NO_ID): 7}
         new = acl_bytes.Record(0, 4, 0o6000, acl_bytes.bytes_of(entries), acl_bytes.minimal(0o700))
-        self.assertEqual(differences.parts(old, new), b"owner, flags, access list, default list")
+        self.assertEqual(differences.parts(old, new), b"owner, flags, access ACL, default ACL")
         self.assertEqual(list(differences.lines(old, new, b"before")), [
             b"owner: 70001 before, root now", b"flags: --t before, ss- now", b"user:70009: none before, rw- now",
             b"group:: r-- before, --- now", b"mask:: none before, rwx now", b"other:: --- before, r-- now",
@@ -331,10 +331,10 @@ class ThereAndBack(Tree):
         self.assertEqual(self.apply().status, 0)
         os.chmod(os.path.join(self.tree, "b"), 0o444)
         done = self.apply("--undo", "--leave-changed")
-        self.assertEqual((done.status, done.out, self.mode("a"), self.mode("b")), (0, b"1 file is as before\n", 0o640, 0o444))
+        self.assertEqual((done.status, done.out, self.mode("a"), self.mode("b")), (0, b"restored 1 file\n", 0o640, 0o444))
         self.assertEqual(self.read("before.plan/state"), b"undone in part\n")
         os.chmod(os.path.join(self.tree, "b"), 0o600)
-        self.expect(self.apply("--undo"), 0, b"2 files are as before\n")
+        self.expect(self.apply("--undo"), 0, b"restored 2 files\n")
         self.assertEqual((self.mode("b"), self.read("before.plan/state")), (0o640, b"undone\n"))
 
     def test_links_on_the_way(self) -> None:
@@ -356,9 +356,9 @@ class ThereAndBack(Tree):
     def test_after_an_owner_closed_a_directory(self) -> None:
         # as the owner, who is not root; for root it is the same
         self.planned(b"chmod 600 " + self.word("d") + b" " + self.word("d/e"))
-        self.expect(self.apply(), 0, b"2 files are as planned\n")
+        self.expect(self.apply(), 0, b"changed 2 files\n")
         self.assertEqual(self.mode("d"), 0o600)
-        self.expect(self.apply("--undo"), 0, b"2 files are as before\n")
+        self.expect(self.apply("--undo"), 0, b"restored 2 files\n")
         self.assertEqual((self.mode("d"), self.mode("d/e")), (0o755, 0o640))
 
     def test_names_that_a_terminal_would_obey(self) -> None:
@@ -366,7 +366,7 @@ class ThereAndBack(Tree):
         self.planned(b"chmod 600 " + self.word("x\n\x1b[31mfacl-apply: all is well\u202e"))
         os.chmod(os.path.join(self.tree, "x\n\x1b[31mfacl-apply: all is well\u202e"), 0o777)
         done = self.apply()
-        self.assertIn(b"/x\\012\\033[31mfacl-apply: all is well\\342\\200\\256: was changed: access list\n", done.messages)
+        self.assertIn(b"/x\\012\\033[31mfacl-apply: all is well\\342\\200\\256: was changed: access ACL\n", done.messages)
         self.assertNotIn(b"\x1b", done.messages)
 
 
@@ -463,7 +463,7 @@ class Meanwhile(Tree):
         self.assertEqual([self.mode(name) for name in ("a", "b")], [0o640, 0o640])
         with unittest.mock.patch.object(carrying.Carrier, "run", unittest.mock.Mock(side_effect=MemoryError)):
             self.assertEqual(apply.carry_out(command, carrier.way, carrier, True), 4)
-        self.assertRegex(command.say.call_args.args[0], b"^memory ran out, .*: run facl-apply --undo ")
+        self.assertRegex(command.say.call_args.args[0], b"^memory ran out, .*: run facl undo ")
         self.assertEqual(self.read("before.plan/state"), b"applying\n")
 
     def test_no_signal_is_the_status_of_what_is_done(self) -> None:
@@ -471,7 +471,7 @@ class Meanwhile(Tree):
         self.keep_signals()
         command = unittest.mock.Mock()
         self.assertEqual(apply.carry_out(command, carrier.way, carrier, True), 0)
-        command.tell.assert_called_once_with(b"1 file is as planned")
+        command.tell.assert_called_once_with(b"changed 1 file")
         for number in SIGNALS:
             os.kill(os.getpid(), number)
         self.assertEqual(self.mode("a"), 0o604)

@@ -149,14 +149,14 @@ class AsTheProgram(Case):
                     b"    PERMS are letters of rwx, or one digit 0 to 7.\n")
 
     def test_bad_words(self) -> None:
-        for words, message in ((["absent"], b"absent: no such folder: make a snapshot by facl-snapshot"),
+        for words, message in ((["absent"], b"absent: no such folder; make a snapshot with facl snapshot"),
                                (["before", "absent"], b"absent: No such file or directory"),
                                (["before", "before"], b"before: Is a directory"),
                                (["before", "absent", "-"], b"absent: No such file or directory"),
                                (["--program", "absent", "before"], b"absent: no such program")):
             self.expect(self.run_command("facl-ask", words), 2, b"", b"facl-ask: " + message + b"\n")
         os.unlink(self.path("before/group"))
-        self.expect(self.run_command("facl-ask", ["before"]), 2, b"", b"facl-ask: before: is no snapshot: group is not in it\n")
+        self.expect(self.run_command("facl-ask", ["before"]), 2, b"", b"facl-ask: before: is not a snapshot: it has no group\n")
         self.assertEqual(self.run_command("facl-ask", []).status, 2)
         self.assertEqual(self.run_command("facl-ask", ["--help"]).status, 0)
 
@@ -164,7 +164,7 @@ class AsTheProgram(Case):
 class OutAtATerminal(Case):
     """Answers of a script that go to a terminal, and the same in a pipe."""
 
-    MARK = b"    <-- here is no search: nothing below is reached"
+    MARK = b"    <-- no search permission here: nothing below is reached"
     QUESTIONS = b"why --reach guest srv/share/one\nfrob\nwhy guest srv/share/one\nload x\n"
 
     def test_where_the_user_is_stopped(self) -> None:
@@ -203,7 +203,7 @@ mask::---
 other::r--
 
 """
-    MASKS = b"facl-ask: judged by the check of acl(5) (--acl5); lists by which Linux grants otherwise, as their mask is empty: 1, first: project/notes\n"
+    MASKS = b"facl-ask: judged by the check of acl(5) (--acl5); ACLs by which Linux grants otherwise, as their mask is empty: 1, first: project/notes\n"
     QUESTIONS = b"may ben 0\ncan mara project/notes\n"
     ANSWERS = b"project\nproject/notes\n-w- r-- rw-\n"
 
@@ -383,8 +383,8 @@ class Overview(Case):
         for name, text in (("passwd", b""), ("group", b"root:x:0:"), ("dump", b""), ("links", b"/srv/share/one\n")):
             self.write("before/" + name, text)
         self.assertEqual(list(overview.torn(overview.read_texts(folder))), [
-            b"dump: has 0 files, and facl-snapshot recorded 14", b"passwd: has 0 rows, and facl-snapshot recorded 5",
-            b"group: has 0 rows, and facl-snapshot recorded 5", b"links: has 1 name, and facl-snapshot recorded 2",
+            b"dump: has 0 files, but facl snapshot recorded 14", b"passwd: has 0 rows, but facl snapshot recorded 5",
+            b"group: has 0 rows, but facl snapshot recorded 5", b"links: has 1 name, but facl snapshot recorded 2",
         ])
 
     def test_texts_that_can_be_read(self) -> None:
@@ -467,7 +467,7 @@ class Prompts(unittest.TestCase):
                          b"ines\n--x -w- -wx r-- r-x rw- rwx\n(nobody)\n" + note + b"ines\nben\nmara\nguest\nines loses --x,r--,r-x srv\n\n")
 
     def test_where_the_user_is_stopped(self) -> None:
-        mark = b"    <-- here is no search: nothing below is reached\n"
+        mark = b"    <-- no search permission here: nothing below is reached\n"
         share = b"# file: srv/share\nother::---\n\n"
         answer = self.ask("why --reach guest srv/share/one srv/share/drafts/logo.svg srv", "why guest srv/share srv/share/one",
                           "setfacl -m u:guest:x srv/share", "why --reach guest srv/share/drafts/logo.svg")

@@ -99,7 +99,7 @@ MADE: Dict[str, Made] = {
         b"setfacl -n -x u:anna,g:law /srv/hr/new"),
     "default-not-inherited": Made(
         {b"/srv/hr/sub/": FOLDER + b"default:user::rwx\ndefault:group::rwx\ndefault:other::---\n",
-         b"/srv/hr/sub/deep/": FOLDER}, b"srv/hr/sub/deep", b"lacks the default list of srv/hr/sub",
+         b"/srv/hr/sub/deep/": FOLDER}, b"srv/hr/sub/deep", b"lacks the default ACL of srv/hr/sub",
         b"setfacl -n -m d:u::rwx,d:g::rwx,d:o::--- /srv/hr/sub/deep"),
     "default-differs": Made(
         {b"/srv/hr/sub/": with_entries(FOLDER, b"user:1009:--x") + b"default:user::rwx\ndefault:group::rwx\n"
@@ -202,12 +202,12 @@ class EverybodyElse(Audits):
         wanted = b"""\
 small (of srva, 2026-11-27T03:10:00Z): 3 files at or below /srv/hr
 middle  readable-by-everybody   1 file
-        everybody else, whom no list names, can read it along its path
+        everybody else, whom no ACL names, can read it along its path
         first: srv/hr/new
-        for facl-plan: setfacl -n -m o::--- /srv/hr/new
+        for facl plan: setfacl -n -m o::--- /srv/hr/new
 findings: 1 middle
-all files of one: facl-audit --list readable-by-everybody small
-all lines of one: facl-audit --edits readable-by-everybody small >edits; facl-plan small edits
+all files of one: facl audit --list readable-by-everybody -s small
+all lines of one: facl audit fix readable-by-everybody -s small >edits; facl plan -s small edits
 """
         self.expect(self.audit(), 0, wanted)
         self.write("small/meta", self.read("small/meta") + b"users-asked-for 13\n")
@@ -248,15 +248,15 @@ small (of srva, 2026-11-27T03:10:00Z): 5 files at or below /srv/hr
 high    set-user-id             1 file
         a plain file that is run with the rights of its owner
         first: srv/hr/new
-        for facl-plan: chmod 2750 /srv/hr/new
+        for facl plan: chmod 2750 /srv/hr/new
 middle  set-group-id            2 files
         a plain file that is run with the rights of its group
         first: srv/hr/new
         then:  srv/hr/sub/x
-        for facl-plan: chmod 4750 /srv/hr/new
+        for facl plan: chmod 4750 /srv/hr/new
 findings: 1 high, 1 middle
-all files of one: facl-audit --list set-user-id small
-all lines of one: facl-audit --edits set-user-id small >edits; facl-plan small edits
+all files of one: facl audit --list set-user-id -s small
+all lines of one: facl audit fix set-user-id -s small >edits; facl plan -s small edits
 """
         self.expect(self.audit(), 1, wanted)
 
@@ -265,9 +265,9 @@ all lines of one: facl-audit --edits set-user-id small >edits; facl-plan small e
         os.chmod(self.path("accepted"), 0o600)
         os.rename(self.path("small"), self.path("a b"))
         done = self.run_command("facl-audit", ["--fail-on", "none", "--accepted", "accepted", "--file-alone", "a b", "/srv/hr"])
-        words = b"--file-alone --accepted accepted 'a b' /srv/hr"
-        self.assertTrue(done.out.endswith(b"all files of one: facl-audit --list set-user-id %s\n"
-                                          b"all lines of one: facl-audit --edits set-user-id %s >edits; facl-plan 'a b' edits\n" % (words, words)), done)
+        words = b"--alone --accepted accepted -s 'a b' /srv/hr"
+        self.assertTrue(done.out.endswith(b"all files of one: facl audit --list set-user-id %s\n"
+                                          b"all lines of one: facl audit fix set-user-id %s >edits; facl plan -s 'a b' edits\n" % (words, words)), done)
         done = self.run_command("facl-audit", ["--dump", "a b/dump", "--passwd", "a b/passwd", "--group", "a b/group"])
         self.assertTrue(done.out.endswith(b"facl-plan --dump 'a b/dump' --passwd 'a b/passwd' --group 'a b/group' edits\n"), done)
 
@@ -278,12 +278,12 @@ all lines of one: facl-audit --edits set-user-id small >edits; facl-plan small e
         self.assertEqual(json.loads(self.audit("--json").out)["folders"], ["srv", "x"])
 
     def test_a_page_without_a_name(self) -> None:
-        self.expect(self.audit("--page", ""), 2, b"", b"facl-audit: : is no name of a file\n")
+        self.expect(self.audit("--page", ""), 2, b"", b"facl-audit: : cannot be the name of a file\n")
 
     def test_at_a_terminal(self) -> None:
         done = self.at_terminal("facl-audit", ["small"], {"COLUMNS": "44", "LINES": "90"})
         plain = re.sub(rb"\x1b\[\d*m", b"", done.out)
-        lines = [line for line in plain.splitlines() if not line.startswith((b"        for facl-plan:", b"all "))]
+        lines = [line for line in plain.splitlines() if not line.startswith((b"        for facl plan:", b"all "))]
         self.assertEqual((done.status, max(map(len, lines))), (1, 44))
         self.assertIn(b"\x1b[31mhigh ", done.out)
         done = self.at_terminal("facl-audit", ["small"], {"COLUMNS": "44", "LINES": "90", "NO_COLOR": "yes"})
@@ -291,12 +291,12 @@ all lines of one: facl-audit --edits set-user-id small >edits; facl-plan small e
         done = self.at_terminal("facl-audit", ["small"], {"COLUMNS": "44", "LINES": "5", "PAGER": "echo paged"})
         self.assertEqual((done.status, done.out), (1, b"paged\n"))
         done = self.at_terminal("facl-audit", ["--edits", "set-user-id", "small"], {"COLUMNS": "10", "LINES": "90"})
-        self.assertEqual(done.out, b"# for facl-plan, not for a shell\nchmod 2750 /srv/hr/new\n")
+        self.assertEqual(done.out, b"# for facl plan, not for a shell\nchmod 2750 /srv/hr/new\n")
 
     def test_list_and_edits(self) -> None:
-        self.expect(self.audit("--list", "set-group-id", "--tsv"), 1, b"FILE\tWHAT\tFOR FACL-PLAN\n"
+        self.expect(self.audit("--list", "set-group-id", "--tsv"), 1, b"FILE\tWHAT\tFOR FACL PLAN\n"
                     b"srv/hr/new\t\tchmod 4750 /srv/hr/new\nsrv/hr/sub/x\t\tchmod 0750 /srv/hr/sub/x\n")
-        self.expect(self.audit("--edits", "set-group-id"), 1, b"# for facl-plan, not for a shell\n"
+        self.expect(self.audit("--edits", "set-group-id"), 1, b"# for facl plan, not for a shell\n"
                     b"chmod 4750 /srv/hr/new\nchmod 0750 /srv/hr/sub/x\n")
 
     def test_folders(self) -> None:
@@ -317,7 +317,7 @@ all lines of one: facl-audit --edits set-user-id small >edits; facl-plan small e
     def test_words_that_are_wrong(self) -> None:
         self.assertEqual(self.audit("--list", "nothing").status, 2)
         self.expect(self.run_command("facl-audit", ["nix"]), 2, b"",
-                    b"facl-audit: nix: no such folder: make a snapshot by facl-snapshot\n")
+                    b"facl-audit: nix: no such folder; make a snapshot with facl snapshot\n")
 
 
 class AcceptedFindings(TwoKinds):
@@ -352,7 +352,7 @@ class AcceptedFindings(TwoKinds):
 
     def test_lines_that_are_wrong(self) -> None:
         for text, message in ((b"set-user-id srv/hr/new\n", b"a line is FINDING PATH REASON; words with spaces are in single "
-                               b"quotes"), (b"setuid srv why\n", b"word 1: no such finding; facl-audit --help lists them"),
+                               b"quotes"), (b"setuid srv why\n", b"word 1: no such finding; facl help audit lists them"),
                               (b"set-user-id 'srv why\n", b"a quote is open")):
             self.expect(self.accept(text), 2, b"", b"facl-audit: accepted, line 1: " + message + b"\n")
 
@@ -394,10 +394,10 @@ class Page(TwoKinds):
 
     def test_the_page_has_them(self) -> None:
         done = self.audit("--page", "page.html", "--fail-on", "none")
-        self.assertEqual((done.status, done.messages), (0, b"facl-audit: page.html: is written\n"))
+        self.assertEqual((done.status, done.messages), (0, b"facl-audit: wrote page.html\n"))
         rows = [[it["weight"], it["name"], "%d" % it["count"], it["files"][0][0].lstrip("/")] for it in self.findings("page.html")]
         self.assertEqual(rows, [[field.decode() for field in row[:4]] for row in self.rows()])
-        self.expect(self.audit("--page", "page.html"), 2, b"", b"facl-audit: page.html: is there already, and is not replaced\n")
+        self.expect(self.audit("--page", "page.html"), 2, b"", b"facl-audit: page.html exists and is not replaced; choose another name\n")
 
     def test_what_is_accepted_is_not_there(self) -> None:
         kinds = [it[1].decode() for it in self.rows()]

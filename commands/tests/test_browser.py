@@ -159,7 +159,7 @@ class Choices(Pages):
         page.press("Tab").press("Enter").settle()
         self.assertEqual(page.texts("#side h2"), ["/srv/finance/payroll/03.csv"])
         self.assertEqual(page.evaluate("document.querySelector('#tree [aria-selected=true] .name').textContent"), "03.csv")
-        self.assertIn("for facl-plan: setfacl -n -m u:xaver:r-- /srv/finance/payroll/03.csv", page.texts("#side .found .reason"))
+        self.assertIn("for facl plan: setfacl -n -m u:xaver:r-- /srv/finance/payroll/03.csv", page.texts("#side .found .reason"))
         self.assertEqual(page.faults(), [])
 
 

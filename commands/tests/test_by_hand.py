@@ -147,7 +147,7 @@ class Lines(Case):
         self.assertEqual(done.status, 0)
         self.assertIn(b"guest  none -> r-x    1 file    first: srv/share\n", done.out)
         self.assertIn(b"guest  none -> r--    9 files   first: srv/share/-x\n", done.out)
-        self.assertIn(b"0 files change owner, group, flags or lists; 1 command has to be run by hand\n", done.out)
+        self.assertIn(b"0 files change owner, group, flags or ACL; 1 command has to be run by hand\n", done.out)
 
     def test_a_file_in_the_place_of_a_directory(self) -> None:
         done = self.plan(b"rm -r srv/share/drafts\ncreat --user=mara --mode=0600 srv/share/drafts\n")
@@ -346,12 +346,12 @@ class Files(Scripts):
         self.write("plan/by_hand", text.replace(b"\n1 rm -- ", b"\n1 rm -f -- "))
         done = self.run_script("by_hand")
         self.assertEqual((done.status, done.out, self.names("d")), (2, b"", ["gone", "stays"]))
-        self.assertIn(b"plan/by_hand: has a line that facl-plan did not write, which can only be put after a #: 1 rm -f -- /", done.messages)
+        self.assertIn(b"plan/by_hand: has a line that facl plan did not write; put a # before it: 1 rm -f -- /", done.messages)
         self.write("plan/by_hand", text.replace(b"\n1 ", b"\n# 1 ").replace(b"\n3 ", b"\n#3 "))
         self.expect_run("by_hand", 0)
         self.assertEqual((self.names("d"), self.names("d/new")), (["gone", "new", "stays"], ["g"]))
         self.write("plan/by_hand_undo", self.read("plan/by_hand_undo").replace(b"\n5 ", b"\n# 5 "))
-        self.expect_run("by_hand_undo", 1, f"{self.tree}/d/new: is not empty; it is left as it is")
+        self.expect_run("by_hand_undo", 1, f"{self.tree}/d/new: is not empty; it stays as it is")
         self.assertEqual(self.names("d/new"), ["g"])
 
     def test_odd_names(self) -> None:
@@ -462,9 +462,9 @@ class Files(Scripts):
         done = self.run_script("by_hand_undo")
         self.assertEqual((done.status, self.names("d/new")), (1, ["a", "b"]))
         self.assertEqual(done.messages.decode().splitlines(), [
-            f"by_hand_undo: {place}b: is another file than the one that was made; it is left as it is",
-            f"by_hand_undo: {place}a: has contents; it is left as it is",
-            f"by_hand_undo: {place[:-1]}: is not empty; it is left as it is",
+            f"by_hand_undo: {place}b: is another file than the one that was made; it stays as it is",
+            f"by_hand_undo: {place}a: has contents; it stays as it is",
+            f"by_hand_undo: {place[:-1]}: is not empty; it stays as it is",
         ])
         os.unlink(place + "a")
         os.unlink(place + "b")
@@ -637,7 +637,7 @@ class Exchanges(Scripts):
         self.expect_run("by_hand", 0)
         grow = "once(closed_folder.secrets, 'token_hex', lambda *_: sh('echo text >d/newfile'))"
         done = self.run_patched(grow, "by_hand_undo")
-        said = f"by_hand_undo: {self.tree}/d/newfile: has contents; it is left as it is\n"
+        said = f"by_hand_undo: {self.tree}/d/newfile: has contents; it stays as it is\n"
         self.assertEqual((done.status, done.messages.decode()), (1, said))
         self.assertEqual(self.names("d"), ["gone", "newfile", "stays"])
 
@@ -875,7 +875,7 @@ class Users(UserScripts):
         self.write_scripts(people=self.changes(b"useradd -u 1010 -g 400 nell"))
         self.expect_run("by_hand", 0)
         self.write("rows.passwd", PASSWD + b"nell:x:1011:400::/:/bin/sh\n")
-        self.expect_run("by_hand_undo", 1, "user nell: has the ids 1011:400, and not 1010:400; it is left as it is")
+        self.expect_run("by_hand_undo", 1, "user nell: has the ids 1011:400, and not 1010:400; it stays as it is")
 
 
 class DirectoryServices(UserScripts):
@@ -1147,7 +1147,7 @@ class Starts(Scripts):
             fcntl.flock(file, fcntl.LOCK_EX)
             done = self.run_script("by_hand")
         self.assertEqual((done.status, self.names("d")), (2, ["gone", "stays"]))
-        self.assertTrue(done.messages.endswith(b"/plan: another facl-plan, facl-apply or by_hand is at work on it\n"), done.messages)
+        self.assertTrue(done.messages.endswith(b"/plan: another facl plan, apply, undo or by_hand is at work on it\n"), done.messages)
 
 
 if __name__ == "__main__":

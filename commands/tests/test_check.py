@@ -129,7 +129,7 @@ class Forms(Checks):
         self.take({b"/srv/hr/": FOLDER % b"r-x", b"/srv/hr/x": FILE.replace(b"1009", b"1") % b"rw-"})
         done = self.check(b"only @hr xaver read srv/hr/\n")
         self.expect(done, 0, b"small (of srva, 2026-11-27T03:10:00Z): 1 rule holds\n",
-                    b"facl-check: left out: 1 user who is no people (--all-users): daemon\n")
+                    b"facl-check: 1 system account not shown (daemon); --all-users shows it\n")
         self.expect(self.check(b"only @hr xaver read srv/hr/\n", "--quiet"), 0, b"")
         self.assertEqual(self.broken(b"only @hr xaver read srv/hr/", "--all-users"), [b"daemon 1 srv/hr/x"])
         self.assertEqual(self.broken(b"never daemon read srv/hr/"), [b"daemon 1 srv/hr/x"])
@@ -203,8 +203,8 @@ class Digits(Checks):
 
     def test_a_user_whom_no_question_names(self) -> None:
         self.take(TREE, passwd=PASSWD + b"2024:x:1009:1009::/:\n")
-        self.expect(self.check(b"never '2024' read srv/hr/\n"), 2, b"", b"facl-check: 2024: no question can name this user: digits alone "
-                    b"are an id, and an earlier row has this one's id\n")
+        self.expect(self.check(b"never '2024' read srv/hr/\n"), 2, b"", b"facl-check: user \"2024\" cannot be asked for: digits alone "
+                    b"mean an id, and the id of this user is also that of xaver\n")
 
     def test_rows_of_one_id(self) -> None:
         self.take(TREE, group=GROUP + b"more:x:2001:carl\n")
@@ -247,15 +247,15 @@ class WrongRules(Checks):
         texts = [b"word 2: no such user in the snapshot", b"word 2: no such group in the snapshot", b"word 4: no such file in the snapshot",
                  b"word 2: no such user in the snapshot, but a group: write @ before it", form, b"word 2: no such user in the snapshot",
                  b"a single quote is open: in a name write it as \\047", b"word 4: write the path from the root, without ..", form,
-                 b"an empty word is no PATH; all files are those of /"]
+                 b"an empty word is not a PATH; / means all files"]
         wanted = b"".join(b"facl-check: rules, line %d: %s\n" % (place, text) for place, text in enumerate(texts, 2))
         self.expect(done, 2, b"", wanted)
 
     def test_no_rules(self) -> None:
-        self.expect(self.check(b"# none\n"), 2, b"", b"facl-check: rules: has no rules: facl-check --write SNAPSHOT FOLDER writes those "
-                    b"that hold\n")
-        self.expect(self.run_command("facl-check", ["small"]), 2, b"", b"facl-check: RULES is missing: facl-check --write SNAPSHOT "
-                    b"FOLDER >rules writes a file of those that hold\n")
+        self.expect(self.check(b"# none\n"), 2, b"", b"facl-check: rules: has no rules; facl rules FOLDER prints those "
+                    b"that hold now\n")
+        self.expect(self.run_command("facl-check", ["small"]), 2, b"", b"facl-check: RULES is missing; facl rules FOLDER >rules "
+                    b"writes those that hold now\n")
         self.expect(self.run_command("facl-check", ["small", "-"], b"never anna see srv\n"), 2, b"", b"facl-check: standard input, "
                     b"line 1: a rule is never|only|always WHO.. read|write|enter PATH\n")
         rows = self.read("small/passwd")

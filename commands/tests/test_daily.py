@@ -40,25 +40,25 @@ Content-Transfer-Encoding: 8bit
 
 facl on HOST, DAY: TOP/tree
 
-== changes since DAY (facl-diff)
+== changes since DAY (facl diff)
 ..
 
-== findings (facl-audit)
+== findings (facl audit)
 TOP/kept/DAY.2 (of HOST, TIME): 2 files at or below TOP/tree
 high    writable-by-everybody   1 file
-        everybody else, whom no list names, can write it along its path
+        everybody else, whom no ACL names, can write it along its path
         first: PATH/tree/file
-        for facl-plan: setfacl -n -m o::r-- TOP/tree/file
+        for facl plan: setfacl -n -m o::r-- TOP/tree/file
 middle  readable-by-everybody   2 files
-        everybody else, whom no list names, can read it along its path
+        everybody else, whom no ACL names, can read it along its path
         first: PATH/tree
         then:  PATH/tree/file
-        for facl-plan: setfacl -n -m o::--x TOP/tree
+        for facl plan: setfacl -n -m o::--x TOP/tree
 findings: 1 high, 1 middle
-all files of one: facl-audit --list writable-by-everybody TOP/kept/DAY.2
-all lines of one: facl-audit --edits writable-by-everybody TOP/kept/DAY.2 >edits; facl-plan TOP/kept/DAY.2 edits
+all files of one: facl audit --list writable-by-everybody -s TOP/kept/DAY.2
+all lines of one: facl audit fix writable-by-everybody -s TOP/kept/DAY.2 >edits; facl plan -s TOP/kept/DAY.2 edits
 
-== rules that do not hold (facl-check)
+== rules that do not hold (facl check)
 TOP/rules, line 1: never others write TOP/tree/
     everybody else may write 1 file, first: PATH/tree/file
         by  .: other::r-x
@@ -124,7 +124,7 @@ class Daily(Case):
             text = text.replace(word.encode(), name.encode())
         found = re.sub(r"DAYT[\d:]+Z", "TIME", text.decode())
         found = re.sub(r"(?<=other::r-x\n)(?:            .*\n)+", "            BLOCKS\n", found)
-        return re.sub(r"(?<=\(facl-diff\)\n)(?:.*\n)*?(?=\n== )", "..\n", found)
+        return re.sub(r"(?<=\(facl diff\)\n)(?:.*\n)*?(?=\n== )", "..\n", found)
 
 
 class Week(Daily):
@@ -161,7 +161,7 @@ class Week(Daily):
     def test_printed(self) -> None:
         os.chmod(os.path.join(self.tree, "file"), 0o646)
         done = self.daily()
-        wanted = MAIL.partition("\n\n")[2].replace("DAY.2", "DAY").replace("== changes since DAY (facl-diff)\n..\n\n", "")
+        wanted = MAIL.partition("\n\n")[2].replace("DAY.2", "DAY").replace("== changes since DAY (facl diff)\n..\n\n", "")
         self.assertEqual((done.status, self.plain(done.out), done.messages), (1, wanted, b""))
         self.assertEqual(os.stat(self.path("kept")).st_mode & 0o777, 0o700)
 
@@ -171,7 +171,7 @@ class Week(Daily):
         for words in (("--fail-on", "none"), ("--fail-on=none",)):
             done = self.daily(*words)
             self.assertEqual((done.status, [line for line in done.out.splitlines() if line.startswith(b"== ")]),
-                             (1, [b"== rules that do not hold (facl-check)"]))
+                             (1, [b"== rules that do not hold (facl check)"]))
 
     def test_accepted_and_options_of_the_snapshot(self) -> None:
         self.make("x.tmp", 0o666)
@@ -211,7 +211,7 @@ class InParts(Daily):
         done = self.daily(*parts)
         self.assertEqual((done.status, done.messages), (1, b""))
         self.assertEqual(done.out.count(b"== "), 2, done.out)
-        self.assertIn(b"files: 1 with another owner, group, flags or list, 1 new\n", done.out)
+        self.assertIn(b"files: 1 with another owner, group, flags or ACL, 1 new\n", done.out)
         self.assertIn(b"    everybody else may write 1 file, first: %s/e\n" % self.tree.strip("/").encode(), done.out)
 
 
@@ -248,9 +248,9 @@ class Faults(Daily):
         self.assertIn(b"has files that are no snapshot's, so it stays", done.messages)
 
     def test_words(self) -> None:
-        for words, text in ((["--keep", "0"], b"--keep 0: is no number of snapshots"), (["--keep"], b"--keep: takes a word"),
-                            (["--mail", "a b"], b"--mail a b: is no address"), (["--fail-on", "x"], b"give high, middle, low or none"),
-                            (["--split", "0"], b"--split 0: is no number from 1 to 9999999"), (["--nix"], b"--nix: is no option")):
+        for words, text in ((["--keep", "0"], b"--keep 0: is not a number of snapshots"), (["--keep"], b"--keep: takes a word"),
+                            (["--mail", "a b"], b"--mail a b: is not an address"), (["--fail-on", "x"], b"give high, middle, low or none"),
+                            (["--split", "0"], b"--split 0: is not a number from 1 to 9999999"), (["--nix"], b"--nix: is not an option")):
             done = self.daily(*words, folders=[] if words == ["--keep"] else None)
             self.assertEqual((done.status, done.out, text in done.messages), (2, b"", True), done)
         self.assertIn(b"give a FOLDER from the root on", self.daily(folders=["tree"]).messages)
@@ -270,7 +270,7 @@ class Faults(Daily):
         fcntl.flock(descriptor, fcntl.LOCK_EX)
         done = self.daily()
         self.assertEqual((done.status, self.kept()), (2, []))
-        self.assertIn(b"another facl-daily is at work there", done.messages)
+        self.assertIn(b"another facl daily is at work there", done.messages)
 
     def test_no_snapshot(self) -> None:
         done = self.daily(folders=[self.path("nix")])

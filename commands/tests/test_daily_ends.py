@@ -156,7 +156,7 @@ class Kills(Stubbed):
         self.stub("in-snapshot", "kill -KILL $PPID\nsleep 1\n")
         self.assertEqual(self.daily(), -signal.SIGKILL)
         self.assertEqual(self.daily(), 2)
-        self.assertIn(b"another facl-daily is at work there, or a command", self.take("stubs/mails"))
+        self.assertIn(b"another facl daily is at work there, or a command", self.take("stubs/mails"))
         self.wait_for_commands()
         os.unlink(self.path("stubs/in-snapshot"))
         self.assertEqual(self.daily(), 1)
@@ -258,16 +258,16 @@ class Places(Stubbed):
         self.assertEqual(os.stat(lock).st_mode & 0o7777, 0o600)
         with open(lock, "rb") as file:
             fcntl.flock(file, fcntl.LOCK_EX)
-            self.refused(b"another facl-daily is at work there")
+            self.refused(b"another facl daily is at work there")
         os.chmod(lock, 0o644)
         self.refused(b"has the mode 0644 in place of 0600")
         os.unlink(lock)
-        for make, text in ((os.mkfifo, b"is no plain file"), (os.mkdir, b"is no plain file")):
+        for make, text in ((os.mkfifo, b"is not a regular file"), (os.mkdir, b"is not a regular file")):
             make(lock)
             self.refused(text)
             (os.unlink if make is os.mkfifo else os.rmdir)(lock)
         os.symlink(self.path("elsewhere"), lock)
-        self.refused(b"is no plain file")
+        self.refused(b"is not a regular file")
         self.assertFalse(os.path.exists(self.path("elsewhere")))
 
     def test_a_lock_on_the_folder(self) -> None:
@@ -288,13 +288,13 @@ class Places(Stubbed):
         os.chmod(name, 0o660)
         self.refused(b"has the mode 0660 in place of 0600")
         os.chmod(name, 0o600)
-        for text, reason in ((b"../x\n", b"line 1 is no name of a snapshot"), (good[:-1], b"its last line has no end"),
-                             (good + b"\xff\n", b"line 3 is no name"), (b"2026-01-01\n" * 100_000, b"is too large")):
+        for text, reason in ((b"../x\n", b"line 1 is not the name of a snapshot"), (good[:-1], b"its last line has no end"),
+                             (good + b"\xff\n", b"line 3 is not the name"), (b"2026-01-01\n" * 100_000, b"is too large")):
             self.write("kept/" + MADE, text)
             self.refused(reason)
         os.unlink(name)
         os.mkfifo(name)
-        self.refused(b"is no plain file")
+        self.refused(b"is not a regular file")
 
     @unittest.skipIf(shutil.which("setfacl") is None, "it takes setfacl")
     def test_default_lists(self) -> None:
@@ -320,8 +320,8 @@ class Places(Stubbed):
             os.chown(self.path(name), 0, 0, follow_symlinks=False)
 
     def test_words(self) -> None:
-        self.assertEqual((self.daily("--keep", "0"), self.subjects()), (2, [b"--keep 0: is no number of snapshots"]))
-        self.assertEqual((self.daily("--nix"), self.subjects()), (2, [b"--nix: is no option" + os.fsencode(daily_words.HINT)]))
+        self.assertEqual((self.daily("--keep", "0"), self.subjects()), (2, [b"--keep 0: is not a number of snapshots"]))
+        self.assertEqual((self.daily("--nix"), self.subjects()), (2, [b"--nix: is not an option" + os.fsencode(daily_words.HINT)]))
         self.assertFalse(os.path.exists(self.kept))
 
 

@@ -20,7 +20,7 @@ from facl_commands.questions.diff.reasons import decided_by, words_of_list  # no
 from facl_commands.questions.diff.states import pairs_of  # noqa: E402
 
 PAIR = ("before", "after")
-NOTHING = b"nothing differs: the same users, groups of users, files and lists\n"
+NOTHING = b"nothing differs: the same users, groups of users, files and ACLs\n"
 NEW_FILE = b"# owner: 1001\n# group: 100\nuser::rw-\ngroup::r--\nother::---\n\n"
 ONE, NOTES = b"# file: /srv/share/one\n", b"# file: /srv/share/notes\n"
 META = b"host %s\ndate 2026-11-%dT03:10:00Z\nfolder %s\n"
@@ -143,14 +143,14 @@ none    rw-    mara                1  /srv/share/drafts/logo.svg  /srv/share ope
 none    r--    mara                2  /srv/share/notes            /srv/share opened
 none    --x    mara guest          1  /srv/share                  others' entry changed
 none    r--    guest               1  /srv/share/one              /srv/share opened, others' entry changed
-files: 2 with another owner, group, flags or list
+files: 2 with another owner, group, flags or ACL
 """)
 
     def test_who_is_looked_at(self) -> None:
         self.write("after/passwd", self.read("after/passwd").replace(b"root:x:0:0:", b"root:x:0:100:") + b"www:x:33:100:::\n")
         done = self.diff()
         self.expect(done, 0, b"nobody gained or lost anything; users: 1 new (www); memberships: 1 new, 1 gone\n",
-                    b"facl-diff: left out: 1 user who is no people (--all-users): www\n")
+                    b"facl-diff: 1 system account not shown (www); --all-users shows it\n")
         self.assertEqual({row[2] for row in self.rows("--all-users")}, {"www"})
         self.assertEqual({row[2] for row in self.rows("--with-root", "--all-users")}, {"www", "root"})
 
@@ -173,7 +173,7 @@ class EverybodyElse(DiffCase):
         self.expect(self.diff(), 1, b"""\
 BEFORE  AFTER  WHO            FILES  FIRST  WHY
 r-x     rwx    everybody (4)      1  /srv   others' entry changed
-files: 1 with another owner, group, flags or list
+files: 1 with another owner, group, flags or ACL
 """)
         row = ("r-x", "rwx", "1", "/srv", "others' entry changed")
         self.assertEqual(self.rows(), [(*row[:2], user, *row[2:]) for user in ("everybody else", "ines", "ben", "mara", "guest")])
@@ -193,7 +193,7 @@ files: 1 with another owner, group, flags or list
         self.expect(self.diff(), 1, b"""\
 BEFORE  AFTER  WHO             FILES  FIRST  WHY
 r-x     rwx    everybody else      1  /srv   others' entry changed
-files: 1 with another owner, group, flags or list
+files: 1 with another owner, group, flags or ACL
 """)
         self.expect(self.run_command("facl-diff", ["--tsv", "after", "before"]), 1,
                     b"BEFORE\tAFTER\tWHO\tFILES\tFIRST\tWHY\nrwx\tr-x\teverybody else\t1\t/srv\tothers' entry changed\n")
@@ -288,7 +288,7 @@ files: 1 new, 1 gone
 
     def test_flags_and_default_lists_alone(self) -> None:
         self.edit("after/dump", (b"default:user::rwx\n", b"default:user::r-x\n"), (b"# flags: -s-", b"# flags: -st"))
-        self.expect(self.diff(), 0, b"nobody gained or lost anything; files: 1 with another owner, group, flags or list\n")
+        self.expect(self.diff(), 0, b"nobody gained or lost anything; files: 1 with another owner, group, flags or ACL\n")
 
     def test_hostile_names(self) -> None:
         for name in PAIR:
@@ -393,8 +393,8 @@ class Snapshots(DiffCase):
 
     def test_what_cannot_be_used(self) -> None:
         for words, text in (
-            (["before", "nowhere"], b"nowhere: no such folder: make a snapshot by facl-snapshot"),
-            (["before", "after/dump"], b"after/dump: no such folder: make a snapshot by facl-snapshot"),
+            (["before", "nowhere"], b"nowhere: no such folder; make a snapshot with facl snapshot"),
+            (["before", "after/dump"], b"after/dump: no such folder; make a snapshot with facl snapshot"),
         ):
             self.expect(self.run_command("facl-diff", words), 2, b"", b"facl-diff: " + text + b"\n")
         self.assertEqual(self.run_command("facl-diff", ["before"]).status, 2)
@@ -412,7 +412,7 @@ class Snapshots(DiffCase):
         self.assertIn(b"facl-diff: after: the program does not load it: facl: setup: dump: ", done.messages)
 
     def test_an_empty_folder(self) -> None:
-        self.expect(self.below(""), 2, b"", b"facl-diff: an empty word is no FILE or FOLDER; all files are those of /\n")
+        self.expect(self.below(""), 2, b"", b"facl-diff: an empty word is not a FILE or FOLDER; / means all files\n")
 
     def test_servers(self) -> None:
         self.write("before/meta", META % (b"srva", 26, b"/srv/share"))
@@ -487,7 +487,7 @@ facl-diff: warning: left out of before alone as another file system, so what is 
     def test_a_page(self) -> None:
         self.edit("after/group", (b"staff:x:100:", b"staff:x:100:guest"))
         done = self.diff("--page", "page.html")
-        self.assertEqual((done.status, done.messages), (1, b"facl-diff: page.html: is written\n"))
+        self.assertEqual((done.status, done.messages), (1, b"facl-diff: wrote page.html\n"))
         data = re.search(r'id="data">(.*?)</script>', self.read("page.html").decode(), re.DOTALL)
         assert data is not None
         page = json.loads(data[1])

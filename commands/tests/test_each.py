@@ -281,7 +281,7 @@ class Servers(Case):
                     b"srvb: line 3: gpasswd: not a member\n")
         done = self.run_command("facl-ask", ["--hosts", "down:x", "srva:" + self.path("before"), "localhost:absent"], b"who w srv/share/one\n",
                                 environment)
-        self.expect(done, 2, b"srva: ines\n", b"down: no route\nlocalhost: absent: no such folder: make a snapshot by facl-snapshot\n")
+        self.expect(done, 2, b"srva: ines\n", b"down: no route\nlocalhost: absent: no such folder; make a snapshot with facl snapshot\n")
 
 
 class Files(unittest.TestCase):
@@ -478,7 +478,7 @@ class Each(Case):
                     b"# standard input, line 4: changes\n(nothing)\n\n",
                     unknown + b"line 3: facl: unknown tool\n")
         self.expect(self.run_command("facl-ask", ["--each", "1", "2", "3"], b"can guest srv/share/one\n"), 0, b"r--\n", unknown)
-        warning = (b"facl-ask: judged by the check of acl(5) (--acl5); lists by which Linux grants otherwise, as their mask is empty: 2, first: "
+        warning = (b"facl-ask: judged by the check of acl(5) (--acl5); ACLs by which Linux grants otherwise, as their mask is empty: 2, first: "
                    b"/srv/share/one\n")
         done = self.run_command("facl-ask", ["--acl5", "--each", "1", "2", "3"], b"can guest srv/share/one\n")
         self.expect(done, 0, b"none\n", unknown + warning)
@@ -498,7 +498,7 @@ class Each(Case):
         self.expect(self.each(b"index\n", "1", "3"), 2, b"", b"facl-ask: user ben: has the id 1002 in 1 and 1012 in 3" + servers_instead)
 
     def test_bad_snapshots(self) -> None:
-        self.expect(self.each(b"index\n", "1", "absent"), 2, b"", b"facl-ask: absent: no such folder: make a snapshot by facl-snapshot\n")
+        self.expect(self.each(b"index\n", "1", "absent"), 2, b"", b"facl-ask: absent: no such folder; make a snapshot with facl snapshot\n")
         self.write("2/dump", b"frob\n")
         self.expect(self.each(b"index\n"), 2, b"", b"facl-ask: 2: the program does not load it: facl: setup: dump: text line 1: permissions missing\n")
 

@@ -101,7 +101,7 @@ class AtThePrompt(unittest.TestCase):
                                   b"why --reach 'everybody else' srv/share/one", b"chmod 700 srv", b"changes"),
                          b"ines\nben\neverybody else\nines\nben\nmara\nguest\n(" + BESIDE + b")\n" + note
                          + b"1 everybody else srv\n11 ines srv\n11 ben srv\n1 mara srv\n1 guest srv\n--x r-- r-x\n.\nsrv\n"
-                         b"# file: .\nother::r-x\n\n# file: srv\nother::r-x\n\n# file: srv/share    <-- here is no search: nothing below is reached\n"
+                         b"# file: .\nother::r-x\n\n# file: srv\nother::r-x\n\n# file: srv/share    <-- no search permission here: nothing below is reached\n"
                          b"other::---\n\n# file: srv/share/one\nother::---\n\n"
                          + b"".join(user + b" loses --x,r--,r-x srv\n" for user in (b"everybody else", b"ines", b"ben", b"mara", b"guest")))
 

@@ -224,7 +224,7 @@ class OfOthers(Folders):
     def test_a_pipe(self) -> None:
         os.unlink(self.path("before/marks"))
         os.mkfifo(self.path("before/marks"), 0o600)
-        self.expect_failure(self.name + b"/marks: is no plain file", self.name, b"marks")
+        self.expect_failure(self.name + b"/marks: is not a regular file", self.name, b"marks")
 
     @unittest.skipUnless(os.geteuid() == 0, "only for root, who can give files away")
     def test_what_another_user_owns(self) -> None:

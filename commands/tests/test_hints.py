@@ -154,7 +154,7 @@ class Fingers(Asked):
         self.expect({
             b"addgroup crew": b"Users and groups", b"addgroup ines audit": b": gpasswd -a ines audit", b"delgroup ben audit": b": gpasswd -d ben audit",
             b"delgroup audit": b"Users and groups", b"adduser --ingroup staff nell": b": useradd -u UID -g GROUP nell", b"getent group": b"Users and",
-            b"find srv -name one": b": may --reach USER PERMS", b"ls": b": getfacl -R FILE", b"chgrp audit srv": b"facl-plan takes",
+            b"find srv -name one": b": may --reach USER PERMS", b"ls": b": getfacl -R FILE", b"chgrp audit srv": b"facl plan takes",
             b"namei -l srv": b": why --reach USER FILE", b"cp srv/share/one srv/x": b"copies", b"sudo -u ben cat srv": b": can --reach USER FILE",
             b"doas chmod 600 srv/share/one": b": chmod 600 srv/share/one"})
 
@@ -261,7 +261,7 @@ class Explained(Asked):
         self.expect(b"userdel -r ines", b"userdel has no -r here: userdel USER", b"  in the script: userdel ines")
         self.expect(b"getfacl -pd srv", b"getfacl has no -p, -d here: getfacl [-aceEsRn] FILE..")
         self.expect(b"who 'a;b' | wc", b"No shell reads the line, so |, < and > are words like any other. What facl-ask prints goes to a command "
-                                       b"or a file: facl-ask SNAPSHOT SCRIPT | wc -l", b"  in the script: who 'a;b'")
+                                       b"or a file: facl ask SCRIPT | wc -l", b"  in the script: who 'a;b'")
         self.expect(b"frob")
         self.expect(b"load x\n.")
 

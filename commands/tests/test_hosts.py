@@ -26,7 +26,7 @@ for word in "$@"; do
 done
 exit 255
 """
-UNREADABLE = b"an answer cannot be read; facl-ask may be of another version there"
+UNREADABLE = b"an answer cannot be read; facl may be of another version there"
 CUT = b"a snapshot did not answer to the end"
 Fields = Dict[str, Any]
 

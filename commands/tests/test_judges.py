@@ -39,7 +39,7 @@ mask::---
 other::r--
 """
 OPEN = b"# owner: 0\n# group: 2001\nuser::rwx\ngroup::rwx\nother::r-x\n"
-WARNING = b"%s: judged by the check of acl(5) (--acl5); lists by which Linux grants otherwise, as their mask is empty: 1, first: /srv/hr/note\n"
+WARNING = b"%s: judged by the check of acl(5) (--acl5); ACLs by which Linux grants otherwise, as their mask is empty: 1, first: /srv/hr/note\n"
 EVERYBODY = b"everybody else"
 
 
@@ -55,11 +55,11 @@ class Finding(unittest.TestCase):
     def test_what_is_not_there(self) -> None:
         with mock.patch.dict(os.environ, {"FACL": "./absent"}):
             self.assertRaisesRegex(Failure, r"\./absent: no such program", find_program, self.given(acl5=True))
-        lacking = "the program no-such-program is not on the path: give it by --program FILE"
+        lacking = "the program no-such-program is not on the path: give it with --program FILE"
         for known in (LINUX, ACL5):
             with self.assertRaises(Failure) as caught:
                 KnownProgram("no-such-program", "NO_SUCH_PROGRAM", known.instead).find()
-            self.assertEqual(caught.exception.text.decode(), lacking + ", or ask facl by --acl5" * (known == LINUX))
+            self.assertEqual(caught.exception.text.decode(), lacking + ", or ask facl with --acl5" * (known == LINUX))
 
     def test_the_words_of_another_run(self) -> None:
         self.assertEqual(program_words(self.given()), [])

@@ -114,7 +114,7 @@ class Words(Case):
     def test_options_before_and_after(self) -> None:
         for words in (["apply", "-n", "x"], ["-n", "apply", "x"], ["apply", "x", "-n"],
                       ["--dry-run", "apply", "--", "x"]):
-            text = b"/x: is no plan: make one by facl-plan\n"
+            text = b"/x: is not a plan; make one with facl plan\n"
             self.expect(self.verb(*words), 2, b"", b"facl apply: " + os.fsencode(self.folder) + text)
 
     def test_help(self) -> None:

@@ -43,7 +43,7 @@ os.listxattr = lambda name: FOUND.get(os.readlink(name).rpartition(b"/")[2] + b"
 """
 SRV = "/srv/project"
 README = SRV + "/README"
-LEFT_OUT = b"facl-who: left out, as nobody can write them: "
+LEFT_OUT = b"facl-who: not shown, as nobody can write them: "
 
 
 class Recorded(SnapshotCase):
@@ -82,7 +82,7 @@ class Recorded(SnapshotCase):
         self.assertEqual(self.marks(), [b"immutable a/1", b"immutable b", b"append-only b", b"immutable back\\\\s", b"append-only l\\012f"])
         self.assertEqual(self.counted()[:6], [b"marks 5", b"immutable 3", b"append-only 2", b"on-read-only 0", b"on-noexec 0",
                                               b"attributes-unknown 1"])
-        self.assertIn(b"warning: immutable files, which nobody can write whatever lists say (see marks): 3, first: " + self.place + b"a/1\n",
+        self.assertIn(b"warning: immutable files, which nobody can write whatever their ACLs say (see marks): 3, first: " + self.place + b"a/1\n",
                       done.messages)
         self.assertIn(b"warning: append-only files, of which nobody can change what they have (see marks): 2, first: " + self.place + b"b\n",
                       done.messages)
@@ -97,7 +97,7 @@ class Recorded(SnapshotCase):
         done = self.take({b"/tree/a": b"ro,noexec", b"/tree/a/deep": b"rw", b"/tree/b": b"unknown"})
         self.assertEqual(self.marks(), [b"ro,noexec a/", b"rw a/deep/", b"rw a/fifo", b"unknown b"])
         self.assertEqual(self.counted()[:5], [b"marks 4", b"immutable 0", b"append-only 0", b"on-read-only 3", b"on-noexec 3"])
-        self.assertIn(b"files on read-only file systems, which nobody can write whatever lists say (see marks): 3, first: " + self.place
+        self.assertIn(b"files on read-only file systems, which nobody can write whatever their ACLs say (see marks): 3, first: " + self.place
                       + b"a/\n", done.messages)
         self.assertIn(b"files on noexec file systems, which nobody can run (see marks): 3, first: " + self.place + b"a/\n", done.messages)
         self.take({b"/tree": b"ro", b"/tree/a": b"ro"})
@@ -114,8 +114,8 @@ class Recorded(SnapshotCase):
     def test_other_lists(self) -> None:
         done = self.take({b"1?": ["security.NTACL", "user.x"], b"2?": ["system.nfs4_acl"], b"b?": ["system.nfs4_acl_xdr", "system.nfs4_acl"]})
         self.assertEqual(self.counted()[6:], [b"nfs4-list 2", b"rich-list 0", b"samba-list 1"])
-        self.assertIn(b"files with an NFSv4 list (system.nfs4_acl), which facl does not judge: 2, first: " + self.place + b"a/2\n", done.messages)
-        self.assertIn(b"files with a list of Samba (security.NTACL), by which Samba judges too, and facl does not: 1, first: ", done.messages)
+        self.assertIn(b"files with an NFSv4 ACL (system.nfs4_acl), which facl does not judge: 2, first: " + self.place + b"a/2\n", done.messages)
+        self.assertIn(b"files with an ACL of Samba (security.NTACL), which Samba checks too, and facl does not: 1, first: ", done.messages)
 
 
 class ReadMarks(unittest.TestCase):
@@ -271,15 +271,15 @@ class Who(MarkedCase):
         self.mark_some()
         self.write("project/meta", self.read("project/meta") + b"marks 5\nattributes-unknown 2\nnfs4-list 3\nsamba-list 1\nrich-list 0\n")
         self.assertEqual(self.who("read", "project").messages, (
-            b"facl-who: warning: project/marks: has 4 lines, and facl-snapshot recorded 5\n"
+            b"facl-who: warning: project/marks: has 4 lines, but facl snapshot recorded 5\n"
             b"facl-who: project: files whose file systems do not say whether they are immutable: 2\n"
-            b"facl-who: project: files with lists that facl does not judge: NFSv4: 3, Samba: 1\n"))
+            b"facl-who: project: files with ACLs that facl does not judge: NFSv4: 3, Samba: 1\n"))
 
 
 class ByListsAlone(MarkedCase):
     """What the other commands say, whose answers are those of the program."""
 
-    SAID = b"project: 2 immutable files, 1 append-only file, 1 read-only file system: judged by lists alone, which grant there what nobody can do\n"
+    SAID = b"project: 2 immutable files, 1 append-only file, 1 read-only file system: judged by ACLs alone, which grant there what nobody can do\n"
 
     def test_answers(self) -> None:
         script = b"who w srv/project/README\nwhy mara srv/project/README\n"
@@ -307,7 +307,7 @@ class ByListsAlone(MarkedCase):
         shutil.copytree(self.path("project"), self.path("later"))
         self.mark_some()
         old, new = b"facl-diff: " + self.SAID, b"facl-diff: " + self.SAID.replace(b"project: ", b"later: ")
-        for text, said in ((self.read("project/marks"), new), (b"immutable /srv\n", old + b"facl-diff: later: 1 immutable file: judged by lists "
+        for text, said in ((self.read("project/marks"), new), (b"immutable /srv\n", old + b"facl-diff: later: 1 immutable file: judged by ACLs "
                                                                b"alone, which grant there what nobody can do\n")):
             self.write("later/marks", text)
             self.assertEqual(self.run_command("facl-diff", ["project", "later"]).messages, said)
@@ -339,7 +339,7 @@ class OnPages(MarkedCase):
                 "project": ["immutable: nobody can write it"], "README": ["immutable: nobody can write it"],
                 "logo.svg": ["append-only: nobody can change what it has"]})
             self.assertEqual(self.named(data, "mounts"), {"old": ["read-only file system: nobody can write it"]})
-            self.assertEqual(data["beside"], ["2 immutable files, 1 append-only file, 1 read-only file system: judged by lists alone, which grant "
+            self.assertEqual(data["beside"], ["2 immutable files, 1 append-only file, 1 read-only file system: judged by ACLs alone, which grant "
                                               "there what nobody can do"])
 
     def test_other_pages(self) -> None:
@@ -351,8 +351,8 @@ class OnPages(MarkedCase):
         self.run_command("facl-diff", ["--page", "two.html", "project", "later"])
         data = read_data(self.read("two.html"))
         self.assertEqual(sorted(self.named(data, "marks")), ["README", "logo.svg", "project"])
-        beside = ("2 immutable files, 1 append-only file, 1 read-only file system: judged by lists alone, which grant there what nobody can do",
-                  "files with lists that facl does not judge: NFSv4: 3")
+        beside = ("2 immutable files, 1 append-only file, 1 read-only file system: judged by ACLs alone, which grant there what nobody can do",
+                  "files with ACLs that facl does not judge: NFSv4: 3")
         self.assertEqual((*data["beside"], *data["unknown"]), beside)
         data = data_in(self.run_command("facl-report", ["--for-review", "--folder", SRV, "later"]).out)
         self.assertEqual(dict(data["facts"])["beside lists"], "; ".join(beside))
@@ -375,7 +375,7 @@ class Planned(MarkedCase):
         self.write("edits", b"setfacl -m u:guest:r srv/project/README srv/project/notes.txt\nrm 'srv/project/drafts/old/logo 1.svg'\n")
         done = self.run_command("facl-plan", ["--plan", "plan", "project", "edits"])
         self.assertEqual((done.status, done.messages), (0, b"facl-plan: " + ByListsAlone.SAID + (
-            b"facl-plan: warning: files that nobody can change, so facl-apply will change none: 1, first: /srv/project/README, since it is "
+            b"facl-plan: warning: files that nobody can change, so facl apply will change none: 1, first: /srv/project/README, since it is "
             b"immutable\nfacl-plan: warning: files that nobody can make or remove, so by_hand will not: 1, first: /srv/project/drafts/old/logo "
             b"1.svg, since the folder above is on a read-only file system\n")))
         self.assertTrue(os.path.exists(self.path("plan/files")))
@@ -387,7 +387,7 @@ class Planned(MarkedCase):
         self.assertEqual(self.run_command("facl-plan", ["--plan", "third", "project", "edits"]).messages, b"")
         self.write("project/meta", self.read("project/meta") + b"nfs4-list 3\n")
         self.assertEqual(self.run_command("facl-plan", ["--plan", "fourth", "project", "edits"]).messages,
-                         b"facl-plan: project: files with lists that facl does not judge: NFSv4: 3\n")
+                         b"facl-plan: project: files with ACLs that facl does not judge: NFSv4: 3\n")
 
 
 # Code that is added to live.py: one name is that of a file with an attribute.
@@ -418,13 +418,13 @@ class Applied(RealCase):
         for name in ("fixed", "other"):
             self.make(name)
         self.planned(b"chmod 600 " + self.word("fixed") + b" " + self.word("other"))
-        for attribute, said in ((linux.IMMUTABLE, b"is immutable, so nobody can change it: chattr -i it before"),
-                                (linux.APPEND_ONLY, b"is append-only, so nobody can change its owner, mode and lists: chattr -a it before")):
+        for attribute, said in ((linux.IMMUTABLE, b"is immutable, so nobody can change it; run chattr -i first"),
+                                (linux.APPEND_ONLY, b"is append-only, so nobody can change its owner, mode and ACL; run chattr -a first")):
             self.expect(self.with_attribute(attribute), 2, b"",
-                        b"facl-apply: " + self.live("fixed") + b": " + said + b"\nfacl-apply: nothing is touched\n")
+                        b"facl-apply: " + self.live("fixed") + b": " + said + b"\nfacl-apply: nothing was changed\n")
             self.assertEqual((self.mode("fixed"), self.mode("other")), (0o640, 0o640))
-        self.expect(self.with_attribute(linux.UNKNOWN), 0, b"2 files are as planned\n")
-        self.expect(self.with_attribute(linux.IMMUTABLE, "--undo"), 0, b"2 files are as before\n")
+        self.expect(self.with_attribute(linux.UNKNOWN), 0, b"changed 2 files\n")
+        self.expect(self.with_attribute(linux.IMMUTABLE, "--undo"), 0, b"restored 2 files\n")
 
 
 if __name__ == "__main__":

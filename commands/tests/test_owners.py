@@ -206,7 +206,7 @@ class Left(Case):
         (mara,) = self.left(b"userdel mara")
         self.assertEqual(chown.notes(mara), [
             b"mara is removed and still owns 2 files, first: /srv/share/drafts",
-            b"mara is removed and still named in the lists of 1 file, first: /srv/share/notes"])
+            b"mara is removed and still named in the ACLs of 1 file, first: /srv/share/notes"])
         self.assertEqual(chown.comments(mara), [
             b"# mara (uid 1003) still owns 2 files. Put the new owner for NEWOWNER:",
             b"# chown -R -h --from=1003 NEWOWNER -- /srv/share/drafts"])

@@ -23,9 +23,9 @@ from facl_commands.plan.hard_links import Links, directory_above, question  # no
 from facl_commands.program.scripts import LINE_LIMIT, read_script  # noqa: E402
 from facl_commands.program.session import Session, parts_of  # noqa: E402
 
-WRITTEN = b"before.plan: is written; next: facl-apply before.plan\n"
+WRITTEN = b"wrote before.plan; next: facl apply before.plan\n"
 REQUESTS = [b"--x", b"-w-", b"-wx", b"r--", b"r-x", b"rw-", b"rwx"]
-ONE_FILE = b"1 file changes owner, group, flags or lists"
+ONE_FILE = b"1 file changes owner, group, flags or ACL"
 NOTES = b"# file: /srv/share/notes\n# owner: 1001\n# group: 100\nuser::rw-\nuser:1003:rw-\n"
 OLD_NOTES = NOTES + b"group::r--\nmask::r--\nother::---\n\n"
 NEW_NOTES = NOTES + b"user:1009:r--\ngroup::r--\nmask::rw-\nother::---\n\n"
@@ -65,24 +65,24 @@ class Reports(Case):
         # ben is of the group.
         ben = b"%-14s  r-- -> rw-     1 file    first: srv/share/plan 2 \n" % b"ben"
         at = out.index(b"mara")
-        self.expect(done, 0, out[:at] + ben + out[at:] + b"3 files change owner, group, flags or lists\n" + WRITTEN)
+        self.expect(done, 0, out[:at] + ben + out[at:] + b"3 files change owner, group, flags or ACL\n" + WRITTEN)
 
     def test_torn_texts(self) -> None:
         self.write("before/links", b"")
         self.write("before/inodes", b"boot b\0001 2 0.000000000 /srv\0")
         done = self.plan(b"chmod 600 srv/share/one\n")
         self.assertEqual((done.status, done.out), (2, b""))
-        self.assertIn(b"before/inodes: has no /srv/share/one, so it is not as facl-snapshot wrote it: make the snapshot again\n", done.messages)
+        self.assertIn(b"before/inodes: has no /srv/share/one, so it is not what facl snapshot wrote: make the snapshot again\n", done.messages)
         self.write("before/inodes", b"boot b\0001 2 0.000000000 /srv")
-        self.assertIn(b"before/inodes: is not as facl-snapshot wrote it", self.plan(b"chmod 600 srv/share/one\n").messages)
+        self.assertIn(b"before/inodes: is not what facl snapshot wrote", self.plan(b"chmod 600 srv/share/one\n").messages)
         self.write("before/meta", b"host srva\ndate 2026-11-26T03:10:00Z\nfolder /srv\nfiles 99\n")
         for torn in (b"", b"boot b\0", b"boot b\0001 2 0.000000000 /srv\0"):
             self.write("before/inodes", torn)
-            self.assertIn(b"before/inodes: has fewer names than facl-snapshot recorded: make the snapshot again\n",
+            self.assertIn(b"before/inodes: has fewer names than facl snapshot recorded: make the snapshot again\n",
                           self.plan(b"chmod 600 srv/share/one\n").messages)
         os.unlink(self.path("before/inodes"))
         self.assertEqual(self.plan(b"chmod 600 srv/share/one\n").status, 0)
-        self.assertIn(b"warning: before/dump: has 14 files, and facl-snapshot recorded 99\n", self.plan(b"chmod 600 srv/share/one\n").messages)
+        self.assertIn(b"warning: before/dump: has 14 files, but facl snapshot recorded 99\n", self.plan(b"chmod 600 srv/share/one\n").messages)
 
     def test_links_that_are_not_those_of_inodes(self) -> None:
         files = {b"/srv/share/one": 7, b"/srv/share/two": 7, b"/srv/share/notes": 8}
@@ -96,25 +96,25 @@ class Reports(Case):
             self.write("before/links", other)
             done = self.plan(script)
             self.assertEqual((done.status, done.out), (2, b""), other)
-            self.assertIn(b"before/links: has other names of files than inodes, so it is not as facl-snapshot wrote it", done.messages)
+            self.assertIn(b"before/links: has other names of files than inodes, so it is not what facl snapshot wrote", done.messages)
 
     def test_a_plan_whose_name_starts_with_a_hyphen(self) -> None:
-        self.assertIn(b"-p: is written; next: facl-apply ./-p\n", self.plan(b"chmod 600 srv/share/one\n", "--plan=-p").out)
+        self.assertIn(b"wrote -p; next: facl apply ./-p\n", self.plan(b"chmod 600 srv/share/one\n", "--plan=-p").out)
 
     def test_by_hand_alone(self) -> None:
         done = self.plan(b"gpasswd -a guest design\n")
         self.assertEqual(done.status, 0)
-        self.assertIn(b"\nbefore.plan: is written; next: sh before.plan/by_hand\nby hand: gpasswd -a guest design\n", done.out)
+        self.assertIn(b"\nwrote before.plan; next: sh before.plan/by_hand\nby hand: gpasswd -a guest design\n", done.out)
 
     def test_along_paths(self) -> None:
         # Neither may search srv/share; mara is not named by the line.
         done = self.plan(b"setfacl -m u:guest:r srv/share/notes\n")
-        self.expect(done, 0, b"guest  no gain        1 file    srv/share grants no search (other::---); add for facl-plan: setfacl -n -m u:guest:x /srv/share\n"
+        self.expect(done, 0, b"guest  no gain        1 file    srv/share grants no search permission (other::---); add to the edits: setfacl -n -m u:guest:x /srv/share\n"
                     + ONE_FILE + b"; nobody may do anything else than before\n" + WRITTEN)
         done = self.plan(b"setfacl -m u:guest:r srv/share/notes\nsetfacl -m u:guest:x srv/share\n")
         self.expect(done, 0, b"guest  none -> --x    1 file    first: srv/share\n"
                              b"guest  none -> r--    1 file    first: srv/share/notes\n"
-                             b"2 files change owner, group, flags or lists\n" + WRITTEN)
+                             b"2 files change owner, group, flags or ACL\n" + WRITTEN)
 
     def test_superusers(self) -> None:
         self.write("before/passwd", self.read("before/passwd") + b"toor:x:0:0::/:/bin/sh\n")
@@ -123,8 +123,8 @@ class Reports(Case):
                   for what in (b"--x    1 file    first: srv/share", b"r--    2 files   first: srv/share/one")]
         done = self.plan(script)
         self.assertEqual([line for line in done.out.splitlines(True) if line[:5] in (b"root ", b"toor ", b"guest", b"every")], others)
-        self.assertIn(b"3 files change owner, group, flags or lists; root and toor are left out, whom the kernel grants nearly everything "
-                      b"(--with-root)\n", done.out)
+        self.assertIn(b"3 files change owner, group, flags or ACL; root and toor not shown, to whom Linux grants nearly "
+                      b"everything; --with-root shows root and toor\n", done.out)
         self.assertEqual(json.loads(self.plan(script, "--json").out)["left_out"], ["root", "toor"])
         done = self.plan(script, "--with-root")
         self.assertIn(b"%-14s  none -> r--    2 files   first: srv/share/one\n" % b"root", done.out)
@@ -211,7 +211,7 @@ class Reports(Case):
         self.assertEqual(({it["first"] for it in report["changes"]}, report["records"]), ({"/"}, ["/"]))
 
     def test_nothing_to_do(self) -> None:
-        message = b"facl-plan: nothing to do: no line changes a list, an owner, a flag, a file or a user\n"
+        message = b"facl-plan: nothing to do: no line changes an ACL, an owner, a flag, a file or a user\n"
         self.expect(self.plan(b"chmod 640 srv/share/one\ngpasswd -a ben audit\n"), 3, b"", message)
         self.expect(self.plan(b""), 3, b"", message)
         self.assertFalse(os.path.exists(self.path("before.plan")))
@@ -226,7 +226,7 @@ class EverybodyElse(Case):
                ("ben", "r--", "none", 2, "srv/share/one"), ("mara", "none", "--x", 1, "srv/share"), ("mara", "none", "r--", 3, "srv/share/notes"),
                ("mara", "none", "rw-", 1, "srv/share/drafts/logo.svg"), ("mara", "none", "rwx", 1, "srv/share/drafts"),
                ("guest", "none", "--x", 1, "srv/share"), ("guest", "none", "r--", 2, "srv/share/one"))
-    SUMMARY = b"3 files change owner, group, flags or lists; root is left out, whom the kernel grants nearly everything (--with-root)\n"
+    SUMMARY = b"3 files change owner, group, flags or ACL; root not shown, to whom Linux grants nearly everything; --with-root shows root\n"
 
     def test_the_report(self) -> None:
         self.expect(self.plan(self.SCRIPT), 0, b"""\
@@ -290,8 +290,8 @@ class RefusedLines(Case):
 
     def test_nothing_is_written(self) -> None:
         done = self.plan(b"setfacl -m u:guest:r srv/share/notes\nsetfacl -m u:gast:r srv/share/one\n")
-        self.expect(done, 1, b"", self.REFUSED + b"facl-plan: 1 line was refused, so nothing is written: mend it, or plan the "
-                                                 b"other lines by --keep-going\n")
+        self.expect(done, 1, b"", self.REFUSED + b"facl-plan: nothing was written: 1 line was refused; mend it, or plan the "
+                                                 b"other lines with --keep-going\n")
         self.assertEqual(sorted(os.listdir(self.folder)), ["before", "edits"])
 
     def test_the_line_that_would_do(self) -> None:
@@ -342,10 +342,10 @@ class RefusedLines(Case):
         self.assertEqual(self.plan(b"chmod 604 srv/share/notes\n", "--plan", "other").messages, b"")
         done = self.plan(b"chmod 604 srv/share/notes\n", "--acl5", "--plan", "third")
         self.assertEqual((done.status, done.messages), (0,
-            b"facl-plan: judged by the check of acl(5) (--acl5); lists by which Linux grants otherwise, as their mask is empty: 1, first: "
+            b"facl-plan: judged by the check of acl(5) (--acl5); ACLs by which Linux grants otherwise, as their mask is empty: 1, first: "
             b"/srv/share/notes\n"))
         self.assertEqual(self.plan(b"chmod 600 srv/share/notes\n", "--acl5", "--plan", "fourth").messages,
-            b"facl-plan: judged by the check of acl(5) (--acl5); lists by which Linux grants otherwise, as their mask is empty: 0\n")
+            b"facl-plan: judged by the check of acl(5) (--acl5); ACLs by which Linux grants otherwise, as their mask is empty: 0\n")
         done = self.plan(b"who r srv/share/notes\r\n")
         self.assertIn(b"facl-plan: warning: edits: has carriage returns, each of which is a part of its word\n", done.messages)
 
@@ -359,12 +359,12 @@ class HardLinks(Case):
     def test_an_edit_is_of_all_names(self) -> None:
         done = self.plan(b"setfacl -m u:guest:r srv/share/two\n", "--file-alone")
         self.expect(done, 0, b"guest  none -> r--    2 files   first: srv/share/one\n"
-                             b"2 files change owner, group, flags or lists\n" + WRITTEN)
+                             b"2 files change owner, group, flags or ACL\n" + WRITTEN)
         self.expect_both(b"user:1009:r--\n")
 
     def test_edits_of_both_names_follow_each_other(self) -> None:
         done = self.plan(b"setfacl -m u:guest:r srv/share/two\nsetfacl -x u:guest srv/share/one\n")
-        self.expect(done, 0, b"2 files change owner, group, flags or lists; nobody may do anything else than before\n" + WRITTEN)
+        self.expect(done, 0, b"2 files change owner, group, flags or ACL; nobody may do anything else than before\n" + WRITTEN)
         self.expect_both(b"")
 
     def test_one_line_for_both_names(self) -> None:
@@ -377,8 +377,8 @@ class HardLinks(Case):
         restored = b"".join(b"# file: srv/share/%s\nuser::rw-\ngroup::%s\nother::---\n\n" % it for it in ((b"one", b"rw-"), (b"two", b"---")))
         done = self.plan(b"setfacl --restore=-\n" + restored + b".\n", "--keep-going")
         self.expect(done, 1, b"",
-                    b"facl-plan: edits, line 1: names of one file get different lists: /srv/share/one, /srv/share/two\n"
-                    b"facl-plan: nothing is written: edit one of those names alone, since the others are the same file\n")
+                    b"facl-plan: edits, line 1: names of one file get different ACLs: /srv/share/one, /srv/share/two\n"
+                    b"facl-plan: nothing was written: edit one of those names alone, since the others are the same file\n")
         self.assertFalse(os.path.exists(self.path("before.plan")))
 
     def test_a_name_that_is_removed(self) -> None:
@@ -588,7 +588,7 @@ class Names(Case):
         self.write("-edits '", b"chmod 600 srv/share/one\n")
         done = self.run_command("facl-plan", ["--", name + "/", "-edits '"])
         self.assertEqual(done.status, 0)
-        self.assertIn(b"a\\351 b\\012.plan: is written; next: facl-apply 'a\\351 b\\012.plan'\n", done.out)
+        self.assertIn(b"wrote a\\351 b\\012.plan; next: facl apply 'a\\351 b\\012.plan'\n", done.out)
         self.assertTrue(os.path.exists(self.path(name + ".plan")))
 
     def test_the_folder_itself(self) -> None:
@@ -622,7 +622,7 @@ class Owners(Case):
 
     def test_along_paths(self) -> None:
         done = self.plan(b"chown -R guest srv/share/drafts\n")
-        self.assertIn(b"guest  no gain        2 files   srv/share grants no search (other::---); add for facl-plan: setfacl -n -m u:guest:x /srv/share\n",
+        self.assertIn(b"guest  no gain        2 files   srv/share grants no search permission (other::---); add to the edits: setfacl -n -m u:guest:x /srv/share\n",
                       done.out)
 
     def test_refused(self) -> None:
@@ -639,7 +639,7 @@ class Owners(Case):
         done = self.plan(b"userdel mara\n")
         self.assertEqual(done.out.splitlines()[-3:], [
             b"by hand: userdel mara", b"mara is removed and still owns 2 files, first: /srv/share/drafts",
-            b"mara is removed and still named in the lists of 1 file, first: /srv/share/notes"])
+            b"mara is removed and still named in the ACLs of 1 file, first: /srv/share/notes"])
         self.assertTrue(self.read("before.plan/by_hand").endswith(b"\n# chown -R -h --from=1003 NEWOWNER -- /srv/share/drafts\n"))
         done = self.plan(b"userdel mara\nchown -R ines srv/share/drafts\nsetfacl -x u:1003 srv/share/notes\n", "--json")
         self.assertEqual(json.loads(done.out)["left_behind"], [])
@@ -653,7 +653,7 @@ class AnyDump(Case):
 
     OPEN = (b"facl-plan: old: the directories above are not recorded, so they are taken as open; hard links, immutable files and "
             b"read-only file systems are not known")
-    RELATIVE = OPEN + b"; names do not start at the root of the file system, so no plan is written for facl-apply\n"
+    RELATIVE = OPEN + b"; names do not start at the root of the file system, so no plan is written\n"
     RECORDS = (b"# file: %snotes\n# owner: ines\n# group: staff\nuser::rw-\nuser:mara:rw-\t\t\t#effective:r--\ngroup::r--\nmask::r--\nother::---\n\n"
                b"# file: %sdrafts\n# owner: mara\n# group: design\n# flags: -s-\nuser::rwx\ngroup::rwx\nother::---\n\n"
                b"# file: %sdrafts/logo\n# owner: mara\n# group: design\nuser::rw-\ngroup::rw-\nother::---\n\n")
@@ -671,14 +671,14 @@ class AnyDump(Case):
         done = self.plan_of(b"", b"setfacl -m u:guest:r notes drafts/logo\n")
         self.expect(done, 0, b"mara   r-- -> rw-     1 file    first: notes\n"
                              b"guest  none -> r--    1 file    first: notes\n"
-                             b"guest  no gain        1 file    drafts grants no search (other::---); add for facl-plan: setfacl -n -m u:guest:x drafts\n"
-                             b"2 files change owner, group, flags or lists\n", self.RELATIVE)
+                             b"guest  no gain        1 file    drafts grants no search permission (other::---); add to the edits: setfacl -n -m u:guest:x drafts\n"
+                             b"2 files change owner, group, flags or ACL\n", self.RELATIVE)
         self.assertEqual(sorted(os.listdir(self.folder)), ["before", "edits", "old"])
 
     def test_files_and_users_of_relative_names(self) -> None:
         done = self.plan_of(b"", b"rm notes\nuserdel mara\n")
         self.assertEqual(done.out.splitlines()[-3:], [
-            b"0 files change owner, group, flags or lists; 0 files are made, 1 removed; 1 command has to be run by hand",
+            b"0 files change owner, group, flags or ACL; 0 files are made, 1 removed; 1 command has to be run by hand",
             b"by hand: userdel mara", b"mara is removed and still owns 2 files, first: drafts"])
         report = json.loads(self.plan_of(b"", b"rm -r drafts\nchown ines:audit notes\n", "--json").out)
         self.assertEqual((report["plan"], report["records"], report["removed"], report["by_hand"]),
@@ -690,12 +690,12 @@ class AnyDump(Case):
         self.RECORDS = b"# file: .\n# owner: root\n# group: root\nuser::rwx\ngroup::---\nother::---\n\n" + AnyDump.RECORDS
         done = self.plan_of(b"", b"setfacl -n -m u:guest:r notes\n")
         self.assertEqual((done.status, done.messages), (0, self.RELATIVE))
-        self.assertIn(b"guest  no gain        1 file    . grants no search (other::---); add for facl-plan: setfacl -n -m u:guest:x,m::x .\n", done.out)
+        self.assertIn(b"guest  no gain        1 file    . grants no search permission (other::---); add to the edits: setfacl -n -m u:guest:x,m::x .\n", done.out)
 
     def test_whole_names(self) -> None:
         done = self.plan_of(b"/srv/", b"setfacl -n -m u:guest:r srv/notes\n")
         self.expect(done, 0, b"guest  none -> r--    1 file    first: srv/notes\n" + ONE_FILE + b"\n"
-                             b"old.plan: is written; next: facl-apply old.plan\n", self.OPEN + b"\n")
+                             b"wrote old.plan; next: facl apply old.plan\n", self.OPEN + b"\n")
         self.assertEqual(self.read("old.plan/new").count(b"# file: /srv/notes\n"), 1)
 
 
@@ -742,21 +742,21 @@ class BadInput(Case):
 
     def test_snapshots(self) -> None:
         self.write("edits", b"chmod 600 srv/share/one\n")
-        self.expect_unusable(b"absent: no such folder: make a snapshot by facl-snapshot", "absent", "edits")
-        self.expect_unusable(b"edits: no such folder: make a snapshot by facl-snapshot", "edits", "edits")
+        self.expect_unusable(b"absent: no such folder; make a snapshot with facl snapshot", "absent", "edits")
+        self.expect_unusable(b"edits: no such folder; make a snapshot with facl snapshot", "edits", "edits")
         dump = self.read("before/dump")
         self.write("before/dump", dump[:-23])
         line = dump[: dump.index(b"# file: /srv/share/two")].count(b"\n") + 1
         self.expect_unusable(b"before: the program does not load it: facl: setup: dump: text line %d: access list: group:: missing" % line,
                              "before", "edits")
         os.unlink(self.path("before/dump"))
-        self.expect_unusable(b"before: is no snapshot: dump is not in it", "before", "edits")
+        self.expect_unusable(b"before: is not a snapshot: it has no dump", "before", "edits")
 
     def test_a_dump_above_the_limit(self) -> None:
         self.write("edits", b"chmod 600 srv/share/one\n")
         os.truncate(self.path("before/dump"), 268_435_457)
         self.expect_unusable(b"before: its dump has more than 268,435,456 bytes, the most that the program reads: take several snapshots "
-                             b"by facl-snapshot --split", "before", "edits")
+                             b"with facl snapshot --split", "before", "edits")
 
     def test_scripts(self) -> None:
         self.expect_unusable(b"absent: No such file or directory", "before", "absent")
@@ -779,10 +779,10 @@ class BadInput(Case):
 
     def test_targets(self) -> None:
         self.write("edits", b"chmod 600 srv/share/one\n")
-        self.expect_unusable(b"absent/plan: the folder that it is to be in is not there", "--plan", "absent/plan", "before", "edits")
-        self.expect_unusable(b"edits: is there, and is no plan: give another name by --plan",
+        self.expect_unusable(b"absent/plan: its parent directory does not exist", "--plan", "absent/plan", "before", "edits")
+        self.expect_unusable(b"edits exists and is not a plan; choose another name with -o",
                              "--plan", "edits", "before", "edits")
-        self.expect_unusable(b"before: is there, and is no plan, or has other files too: give another name by --plan",
+        self.expect_unusable(b"before exists and is not a plan alone (it has other files); choose another name with -o",
                              "--plan", "before", "before", "edits")
 
     def test_a_plan_is_replaced_unless_it_was_applied(self) -> None:
@@ -793,7 +793,7 @@ class BadInput(Case):
             self.write("before.plan/state", state)
             os.chmod(self.path("before.plan/state"), 0o600)
             done = self.plan(b"chmod 600 srv/share/one\n")
-            self.assertEqual((done.status, done.messages), (0, b"facl-plan: the plan that was there is before.plan.%d now\n" % number))
+            self.assertEqual((done.status, done.messages), (0, b"facl-plan: kept the earlier plan as before.plan.%d\n" % number))
             self.assertEqual(self.read("before.plan.%d/state" % number), state)
         self.assertEqual(sorted(os.listdir(self.folder)), ["before", "before.plan", "before.plan.1", "before.plan.2", "edits"])
 
@@ -830,7 +830,7 @@ class Interruptions(Case):
         command = "%s before edits | head -n 1; echo ${PIPESTATUS[0]}" % os.path.join(COMMANDS, "facl-plan")
         done = subprocess.run(["bash", "-c", command], cwd=self.folder, capture_output=True, check=False)
         # It goes on: what is decided does not depend on what can be said.
-        message = b"facl-plan: nothing to do: no line changes a list, an owner, a flag, a file or a user\n"
+        message = b"facl-plan: nothing to do: no line changes an ACL, an owner, a flag, a file or a user\n"
         self.assertEqual((done.stdout, done.stderr), (b"# edits, line 1: index\n3\n", message))
 
 

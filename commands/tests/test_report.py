@@ -143,11 +143,11 @@ class Report(Case):
     def test_refused_lines(self) -> None:
         self.write("edits", b"frob\n")
         self.expect(self.run_command("facl-report", ["before", "edits"]), 1, b"",
-                    b"facl-report: edits, line 1: facl: unknown tool\nfacl-report: 1 line was refused, so no page is written\n")
+                    b"facl-report: edits, line 1: facl: unknown tool\nfacl-report: no page was written: 1 line was refused\n")
 
     def test_other_snapshots(self) -> None:
         self.expect(self.run_command("facl-report", ["absent"]), 2, b"",
-                    b"facl-report: absent: no such folder: make a snapshot by facl-snapshot\n")
+                    b"facl-report: absent: no such folder; make a snapshot with facl snapshot\n")
         _, data = self.report(b"rm -r .\n")
         self.assertEqual(len(nodes_of(data)), 14)
         self.write("before/passwd", b"")
@@ -193,7 +193,7 @@ class Report(Case):
                                                                    b"user::rw-\nuser:1009:r--\ngroup::r--\nmask::---\nother::r--\n", 1))
         self.assertEqual(self.run_command("facl-report", ["before"]).messages, b"")
         done = self.run_command("facl-report", ["--acl5", "before"])
-        self.assertEqual(done.messages, b"facl-report: judged by the check of acl(5) (--acl5); lists by which Linux grants otherwise, as their mask is "
+        self.assertEqual(done.messages, b"facl-report: judged by the check of acl(5) (--acl5); ACLs by which Linux grants otherwise, as their mask is "
                          b"empty: 1, first: /srv/share/-x\n")
         self.assertEqual(read_data(done.out)["judge"], "the check of acl(5), by which Linux does not go where a mask is empty")
         self.assertEqual(read_data(self.run_command("facl-report", ["before"]).out)["judge"], "what Linux grants")
@@ -208,11 +208,11 @@ class Report(Case):
     def test_a_new_file(self) -> None:
         wanted = self.run_command("facl-report", ["before"])
         done = self.run_command("facl-report", ["--output", "page.html", "before"])
-        self.expect(done, 0, b"page.html: is written\n")
+        self.expect(done, 0, b"wrote page.html\n")
         self.assertEqual(stat.S_IMODE(os.stat(self.path("page.html")).st_mode), 0o600)
         self.assertEqual(len(self.read("page.html")), len(wanted.out))
         self.expect(self.run_command("facl-report", ["--output", "page.html", "before"]), 2, b"",
-                    b"facl-report: page.html: is there already, and is not replaced\n")
+                    b"facl-report: page.html exists and is not replaced; choose another name\n")
         self.write("edits", b"frob\n")
         self.assertEqual(self.run_command("facl-report", ["--output", "other.html", "before", "edits"]).status, 1)
         self.assertEqual(sorted(os.listdir(self.folder)), ["before", "edits", "page.html"])
@@ -253,7 +253,7 @@ class Output(unittest.TestCase):
             os.mkdir(target) if name == b"folder" else os.symlink(b"nothing" if name == b"dangling" else self.folder, target)
             with self.assertRaises(Failure) as caught:
                 NewFile(target)
-            self.assertEqual(caught.exception.text, target + b": is there already, and is not replaced")
+            self.assertEqual(caught.exception.text, target + b" exists and is not replaced; choose another name")
         self.assertEqual(sorted(os.listdir(self.folder)), [b"dangling", b"folder", b"link", b"meanwhile"])
 
     def test_folders_of_others(self) -> None:

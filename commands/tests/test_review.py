@@ -102,7 +102,7 @@ class Review(FirmCase):
         done = self.run_command("facl-report", ["--for-review", "--folder", "/srv/absent", snapshot])
         self.expect(done, 2, b"", b"facl-report: /srv/absent: is not recorded: the snapshot is of /srv\n")
         self.expect(self.run_command("facl-report", ["--for-review", "--folder", "/srv/finance/", "--output", "page.html", snapshot]), 0,
-                    b"page.html: is written\n")
+                    b"wrote page.html\n")
         for folder in ("/", "/srv/finance/budget.ods"):
             self.assertEqual(self.run_command("facl-report", ["--for-review", "--folder", folder, snapshot]).status, 0)
 
@@ -133,7 +133,7 @@ class InBrowser(FirmCase):
 
     def lines(self) -> List[bytes]:
         first, *lines = self.sheet.evaluate("document.getElementById('lines').textContent").split("\n")
-        self.assertEqual(first, "# for facl-plan, not for a shell" if lines else "")
+        self.assertEqual(first, "# for facl plan, not for a shell" if lines else "")
         return [it.encode() for it in lines]
 
     def changed(self, snapshot: str, lines: List[bytes]) -> Set[Tuple[str, str]]:

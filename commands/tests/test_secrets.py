@@ -74,7 +74,7 @@ class Secrets(Case):
         os.chmod(self.path("huge"), 0o600)
         for name, words in (("facl-check", ["before", "FILE"]), ("facl-audit", ["--accepted", "FILE", "before"])):
             for file_name, message in (("/dev/zero", b"/dev/zero: can be written by everybody, so it is not trusted"),
-                                       ("pipe", b"pipe: is no plain file"),
+                                       ("pipe", b"pipe: is not a regular file"),
                                        ("huge", b"huge: has more than 64 MiB, which is too large")):
                 self.expect(self.run_command(name, [it.replace("FILE", file_name) for it in words]), 2, b"",
                             b"%s: %s\n" % (name.encode(), message))

@@ -165,7 +165,7 @@ class Written(SnapshotCase):
         self.add_code(AFTER_NAMES % (os.path.realpath(os.fsencode(self.path("tree"))), """: >new && mv -f new 'back\\s' && ln -sf kept link
 ln -sf kept 'l\nf'; rm folder gone; mkdir folder; mv d1 d && mv d2 d1 && mv d d2; mv d3 elsewhere && ln -s outside d3"""))
         gone = os.path.realpath(self.path("tree/gone")).encode()
-        self.expect_status(self.snapshot("new", "tree"), 1, b"the dump lacks them or what is in them: 1, first: %s: was exchanged for another "
+        self.expect_status(self.snapshot("new", "tree"), 1, b"1 file could not be read and is missing from the snapshot, first: %s: was exchanged for another "
                            b"file, or removed, meanwhile\n" % gone)
         self.assertEqual(self.below_tree(), [b"", b"a/", b"a/1", b"a/2", b"b", b"back\\\\s", b"d1/", b"d1/other", b"d2/", b"d2/same", b"folder/",
                                              b"kept", b"outside/", b"outside/same"])
@@ -204,7 +204,7 @@ ln -sf kept 'l\nf'; rm folder gone; mkdir folder; mv d1 d && mv d2 d1 && mv d d2
             self.expect_nothing_left()
         for code in ("scope.MOST_NAMES = 30", "walking.MOST_BYTES = 150"):  # Its names are not even read to their end.
             self.add_code("from . import scope, walking\nwalking.SORTED_AT_ONCE = 10\n" + code)
-            self.expect_status(self.snapshot("new", "tree"), 2, b"tree: more names are in it than can be recorded: leave it out by --exclude\n")
+            self.expect_status(self.snapshot("new", "tree"), 2, b"tree: more names are in it than can be recorded: leave it out with --exclude\n")
         for number in range(20):
             self.write(f"tree/a/file{number}", b"")
         self.add_code("from . import scope\nscope.MOST_FILES = 16\n")
@@ -281,7 +281,7 @@ ln -sf kept 'l\nf'; rm folder gone; mkdir folder; mv d1 d && mv d2 d1 && mv d d2
         own = (acl_bytes.GROUP_OBJ, 4, acl_bytes.NO_ID)
         self.add_code(LISTS % (pack(first, (acl_bytes.USER, 1, 9), (acl_bytes.USER, 7, 9), (acl_bytes.USER, 2, 8), own, (acl_bytes.GROUP, 4, 7),
                                     (acl_bytes.GROUP, 2, 7), *last), b""))
-        self.expect_status(self.snapshot("new", "tree/b"), 0, b"lists with several entries of one user or group, which are recorded as "
+        self.expect_status(self.snapshot("new", "tree/b"), 0, b"ACLs with several entries of one user or group, which are recorded as "
                            b"one, as Linux judges by them: ")
         self.assertTrue(self.read("new/dump").endswith(
             b"\nuser::rw-\nuser:8:-w-\nuser:9:--x\ngroup::r--\ngroup:7:rw-\nmask::rwx\nother::r--\n\n"))
@@ -291,7 +291,7 @@ ln -sf kept 'l\nf'; rm folder gone; mkdir folder; mv d1 d && mv d2 d1 && mv d d2
         self.assertIn(b"\nuser:4091:r--\n", self.read("new/dump"))
         self.add_code(LISTS % (pack(first, *((acl_bytes.USER, 4, number) for number in range(4093)), own, *last), b"")
                       + "of_all = attribute\nwalking.live.attribute = lambda name, key: of_all(name, key) if not os.path.isdir(name) else None\n")
-        self.expect_status(self.snapshot("new", "tree"), 1, b"/a/1: has a list of more than 4096 entries, which facl does not take\n")
+        self.expect_status(self.snapshot("new", "tree"), 1, b"/a/1: has an ACL of more than 4096 entries, which facl does not take\n")
         self.assertEqual(self.below_tree(), [b"", b"a/"])
 
     def recorded(self, *words: str) -> List[bytes]:
@@ -326,7 +326,7 @@ ln -sf kept 'l\nf'; rm folder gone; mkdir folder; mv d1 d && mv d2 d1 && mv d d2
 
     def test_meta_counts_what_is_unread(self) -> None:
         self.add_code(UNREADABLE % b"tree/a")
-        text = b"dump lacks them or what is in them: 1, first: %s/: cannot be read: no\n" % os.path.realpath(self.path("tree/a")).encode()
+        text = b"1 file could not be read and is missing from the snapshot, first: %s/: cannot be read: no\n" % os.path.realpath(self.path("tree/a")).encode()
         self.expect_status(self.snapshot("new", "tree"), 1, text)
         self.assertIn([b"unread", b"1"], self.meta("new/meta"))
         self.assertEqual(self.below_tree(), [b"", b"a/", b"b"])
@@ -496,8 +496,8 @@ class People(SnapshotCase):
         self.assertRegex(self.read("new/group"), rb"(?m)^staff:x:70102:(bea,dora|dora,bea)$")
         self.assertNotIn(b"eve", self.read("new/passwd") + self.read("new/group"))
         for text, message in ((b"\ndora\nzoe", b"line 3: no such user"), (b"zoe\n", b"line 1: no such user"),
-                              (b"dora\nroot:$6$secret:1::\n", b"line 2: is no name of a user"),
-                              (b"s" * 257, b"line 1: is no name of a user"), (b"\0x\n", b"line 1: no such user")):
+                              (b"dora\nroot:$6$secret:1::\n", b"line 2: cannot be the name of a user"),
+                              (b"s" * 257, b"line 1: cannot be the name of a user"), (b"\0x\n", b"line 1: no such user")):
             self.write("more", text)
             self.assertEqual(self.snapshot("--users", "more", "other", "tree").messages, b"facl-snapshot: more: " + message + b"\n")
         self.assertNotIn(b"secret", self.read("asked"))
@@ -611,7 +611,7 @@ class Trusted(SnapshotCase):
     def test_files_that_are_no_snapshot(self) -> None:
         os.mkdir(self.path("mine"))
         self.write("mine/\033[1m\n", b"")
-        self.expect_refused(["mine", "tree"], b"mine: is there, and is no snapshot of yours, or has other files too: \\033[1m\\012")
+        self.expect_refused(["mine", "tree"], b"mine exists and is not a snapshot of yours, or has other files: \\033[1m\\012")
 
     def test_files_that_come_meanwhile(self) -> None:
         self.expect_status(self.snapshot("new", "tree"), 0)
@@ -658,7 +658,7 @@ class Said(SnapshotCase):
         shown = b"|".join(text for _, text in escaped) + b"\\012" + plain
         self.assertLess(len(name), 256)
         for words, status, out, message in (
-            ([name, b"tree"], 0, shown + b": ", b""),
+            ([name, b"tree"], 0, b"recorded " + shown + b": ", b""),
             ([b"new", name + b"x"], 2, b"", b"facl-snapshot: " + shown + b"x: no such file\n"),
         ):
             done = subprocess.run([self.command.encode(), *words], cwd=self.folder, env={**os.environ, "FACL": "true"}, capture_output=True,
@@ -686,16 +686,16 @@ class Said(SnapshotCase):
         self.assertEqual((done.status, done.out, done.messages[:35]), (2, b"", b"facl-snapshot: false does not load "))
         self.assertEqual(self.snapshot("--quiet", "new", "absent"), Done(2, b"", b"facl-snapshot: absent: no such file\n"))
         self.add_code(UNREADABLE % b"tree/a")
-        text = b"files or folders that could not be read, so that the dump lacks them or what is in them: 1, first: %s/: cannot be read: no\n" \
+        text = b"1 file could not be read and is missing from the snapshot, first: %s/: cannot be read: no\n" \
             % os.path.realpath(self.path("tree/a")).encode()
         self.assertEqual(self.snapshot("--quiet", "other", "tree"), Done(1, b"", b"facl-snapshot: warning: " + text))
 
     def test_wrong_words(self) -> None:
         for words, message in (((), b"a FOLDER is missing, as in: facl-snapshot before /srv/project"), (("new",), b"a FOLDER is missing, "),
-                               (("--frob", "new", "tree"), b"--frob: is no option"), (("--users",), b"--users: takes a word"),
+                               (("--frob", "new", "tree"), b"--frob: is not an option"), (("--users",), b"--users: takes a word"),
                                (("--exclude=", "new", "tree"), b"--exclude: takes a word"),
                                (("--exclude", "/", "new", "tree"), b"--exclude /: leaves out all"),
-                               (("--split", "0", "new", "tree"), b"--split 0: is no number from 1 to 9999999")):
+                               (("--split", "0", "new", "tree"), b"--split 0: is not a number from 1 to 9999999")):
             done = self.snapshot(*words)
             self.expect_status(done, 2, b"\nfacl-snapshot: " + message)
             self.assertEqual((done.out, done.messages[:21]), (b"", b"usage: facl-snapshot "))

@@ -61,7 +61,7 @@ class Chosen(VerbCase):
 
     def test_of_another_host(self) -> None:
         self.stored("one", "elsewhere")
-        text = os.fsencode(self.store) + b": has no snapshot of this host; name one by -s: one"
+        text = os.fsencode(self.store) + b": has no snapshot of this host; name one with -s: one"
         self.assertEqual(self.fails(), text)
         found = store.chosen("one")
         self.assertEqual([*store.notes(found)], [b"the snapshot one is of the host elsewhere, not of this one"])
@@ -79,10 +79,10 @@ class Chosen(VerbCase):
         self.assertEqual(store.chosen(None).name, b"whole")
         faults = {it.name: it.fault for it in store.snapshots_in(os.fsencode(self.store))}
         self.assertEqual(faults, {
-            b"whole": b"", b"a": b"no whole snapshot: it lacks dump",
-            b"b": b"no whole snapshot: it lacks passwd, group",
+            b"whole": b"", b"a": b"incomplete snapshot: it lacks dump",
+            b"b": b"incomplete snapshot: it lacks passwd, group",
             b"2026-11-30T000000.aZ09bC": b"left by a run that was killed; it can be removed"})
-        self.assertEqual(self.fails("a"), os.fsencode(self.store) + b"/a: no whole snapshot: it lacks dump")
+        self.assertEqual(self.fails("a"), os.fsencode(self.store) + b"/a: incomplete snapshot: it lacks dump")
 
     def test_others_can_write(self) -> None:
         folder = self.stored("one")
@@ -142,7 +142,7 @@ class Verbs(VerbCase):
         self.assertEqual((done.status, done.messages), (0, b""))
         name, = os.listdir(self.store)
         self.assertRegex(name, r"\A\d{4}-\d\d-\d\dT\d{6}\Z")
-        self.assertTrue(done.out.startswith(os.fsencode(os.path.join(self.store, name)) + b": "), done.out)
+        self.assertTrue(done.out.startswith(b"recorded " + os.fsencode(os.path.join(self.store, name)) + b": "), done.out)
         listed = json.loads(self.verb("snapshots", "--json").out)
         self.assertEqual((listed["schema"], listed["store"]), ("facl-snapshots/1", self.store))
         it, = listed["snapshots"]
@@ -169,7 +169,7 @@ class Verbs(VerbCase):
         done = self.verb("import", "before/dump", "--passwd", "before/passwd", "--group", "before/group")
         self.assertEqual(done.status, 0, done)
         name, = os.listdir(self.store)
-        self.assertEqual(done.out, b"before/dump: imported; to use it: -s " + name.encode() + b"\n")
+        self.assertEqual(done.out, b"imported before/dump; to use it: -s " + name.encode() + b"\n")
         self.assertEqual(sorted(os.listdir(os.path.join(self.store, name))), ["dump", "group", "passwd"])
         for text in ("dump", "passwd", "group"):
             self.assertEqual(self.read("store/%s/%s" % (name, text)), self.read("before/" + text))
@@ -243,7 +243,7 @@ class Prune(VerbCase):
     def test_groups(self) -> None:
         found = [taken(b"a", 0), taken(b"b", 1, b"other"), taken(b"c", 2)]
         self.assertEqual(self.kept(found, daily=1), ["b", "c"])
-        found[0] = found[0]._replace(fault=b"no whole snapshot")
+        found[0] = found[0]._replace(fault=b"incomplete snapshot")
         self.assertEqual(self.kept(found, daily=1), ["a", "b", "c"])
 
     def three(self) -> Dict[str, str]:
@@ -276,7 +276,7 @@ class Prune(VerbCase):
             fcntl.flock(lock, fcntl.LOCK_EX)
             done = self.verb("prune", "--keep-daily", "1")
         self.assertEqual(done.status, 2)
-        self.assertRegex(done.messages, b"another facl-daily is at work there")
+        self.assertRegex(done.messages, b"another facl daily is at work there")
         self.assertTrue(os.path.exists(folders["older"]))
 
 

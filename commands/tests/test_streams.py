@@ -87,7 +87,7 @@ class Environment(RealCase):
         environment = {**os.environ, "PYTHONPATH": self.path("modules"), "POSIXLY_CORRECT": "1", "PYTHONUSERBASE": self.path("modules")}
         done = subprocess.run([os.path.join(COMMANDS, "facl-apply"), "before.plan"], cwd=self.folder, env=environment,
                               capture_output=True, check=False)
-        self.assertEqual((done.returncode, done.stdout), (0, b"1 file is as planned\n"), done.stderr)
+        self.assertEqual((done.returncode, done.stdout), (0, b"changed 1 file\n"), done.stderr)
         self.assertFalse(os.path.exists(self.path("called")))
 
 

@@ -112,9 +112,9 @@ class Users(unittest.TestCase):
             self.assertEqual(choice.kept(users, given(*words.split()), PASSWD), [users[place] for place in places])
 
     def test_who_is_left_out_is_said(self) -> None:
-        for users, wanted in (([b"root"], []), ([b"toor", b"root"], [b"left out, with the uid 0 (--with-root): toor, root"]),
-                              ([b"daemon"], [b"left out: 1 user who is no people (--all-users): daemon"]),
-                              ([b"root", b"nobody", b"svc"], [b"left out: 2 users who are no people (--all-users): nobody, svc"])):
+        for users, wanted in (([b"root"], []), ([b"toor", b"root"], [b"users with the uid 0 not shown (toor, root); --with-root shows them"]),
+                              ([b"daemon"], [b"1 system account not shown (daemon); --all-users shows it"]),
+                              ([b"root", b"nobody", b"svc"], [b"2 system accounts not shown (nobody, svc); --all-users shows them"])):
             self.assertEqual(list(choice.notes(users, PASSWD)), wanted)
 
     def test_order(self) -> None:

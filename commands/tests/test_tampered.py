@@ -38,7 +38,7 @@ sys.stdin.buffer.read()
 """
 ACCESS = 'rb"(?m)^system.posix_acl_access=0x(.*)$"'
 EDIT = b"setfacl -m u:guest:r srv/share/one\n"
-CHANGED = (b"facl-plan: the bytes of a list are not those of its entries, so nothing is written: somebody else can have changed "
+CHANGED = (b"facl-plan: nothing was written: the bytes of an ACL are not those of its entries: somebody else can have changed "
            b"what the program was given, or the program is of another version\n")
 
 

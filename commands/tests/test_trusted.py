@@ -116,7 +116,7 @@ class Folders(Case):
         os.chown(self.path("before"), 0, STRANGER)
         os.chmod(self.path("before"), 0o770)
         self.expect_all_refuse(self.whole + b"/before: can be written by others (its group, or users and groups of its "
-                                                         b"access list), so it is not trusted\n")
+                                                         b"ACL), so it is not trusted\n")
         os.chmod(self.path("before"), 0o750)
         self.assertEqual(self.run_command("facl-ask", ["before", "edits"]).status, 0)
 
@@ -137,10 +137,10 @@ class PlansInTheirPlace(RealCase):
 
     def test_a_used_plan_gets_a_number(self) -> None:
         self.assertEqual(self.apply().status, 0)
-        self.assertEqual(self.again(), b"facl-plan: the plan that was there is before.plan.1 now\n")
+        self.assertEqual(self.again(), b"facl-plan: kept the earlier plan as before.plan.1\n")
         self.assertEqual((self.read("before.plan.1/state"), os.path.exists(self.path("before.plan/state"))), (b"applied\n", False))
         self.assertEqual(self.apply().status, 0)
-        self.assertEqual(self.again(b"604"), b"facl-plan: the plan that was there is before.plan.2 now\n")
+        self.assertEqual(self.again(b"604"), b"facl-plan: kept the earlier plan as before.plan.2\n")
         for name, mode in (("before.plan.2", 0o600), ("before.plan.1", 0o640)):
             self.assertEqual(self.run_command("facl-apply", ["--undo", name]).status, 0)
             self.assertEqual(self.mode("a"), mode)
@@ -152,7 +152,7 @@ class PlansInTheirPlace(RealCase):
     def test_files_of_others(self) -> None:
         self.write("before.plan/notes", b"mine")
         done = self.plan(b"chmod 644 " + self.word("a") + b"\n")
-        self.expect(done, 2, b"", b"facl-plan: before.plan: is there, and is no plan, or has other files too: give another name by --plan\n")
+        self.expect(done, 2, b"", b"facl-plan: before.plan exists and is not a plan alone (it has other files); choose another name with -o\n")
         self.assertEqual(self.read("before.plan/notes"), b"mine")
 
     def test_one_lock(self) -> None:
@@ -160,7 +160,7 @@ class PlansInTheirPlace(RealCase):
 
         folder = plan_folder.open_plan(os.fsencode(self.path("before.plan")))
         self.addCleanup(os.close, folder.descriptor)
-        message = b"before.plan: another facl-plan, facl-apply or by_hand is at work on it\n"
+        message = b"before.plan: another facl plan, apply, undo or by_hand is at work on it\n"
         for done in (self.plan(b"chmod 644 " + self.word("a") + b"\n"), self.apply()):
             self.assertEqual((done.status, done.out), (2, b""))
             self.assertTrue(done.messages.endswith(message), done.messages)

@@ -169,13 +169,13 @@ class Verbs(VerbCase):
     def test_lines_of_edits(self) -> None:
         done = self.verb("plan", "-e", "setfacl -n -m u:guest:r " + NOTES, "-e", "chmod 700 /srv/project")
         self.assertEqual((done.status, done.messages), (0, b""), done)
-        self.assertIn(b"edits.plan: is written", done.out)
+        self.assertIn(b"wrote edits.plan", done.out)
         self.assertEqual(self.read("edits.plan/edits"),
                          b"setfacl -n -m u:guest:r /srv/project/notes.txt\nchmod 700 /srv/project\n")
         self.assertEqual(self.verb("plan", "edits").messages, b"")  # Nobody has used the one that was there.
         self.assertEqual(self.verb("plan", "-", "-o", "p", text=self.read("edits")).status, 0)
         for words in (["plan"], ["plan", "edits", "-e", "rm x"]):
-            self.expect(self.verb(*words), 2, b"", b"facl plan: give a file of edits, or lines by -e LINE\n")
+            self.expect(self.verb(*words), 2, b"", b"facl plan: give a file of edits, or lines with -e LINE\n")
         done = self.verb("plan", "-e", "frob")
         self.assertEqual((done.status, done.messages[:52]),
                          (1, b"facl plan: standard input, line 1: facl: unknown tool"[:52]))
@@ -215,7 +215,7 @@ guest can do nothing with /srv/project/notes.txt: /srv/project gives no search p
         self.assertEqual([it["path"] for it in found["steps"]], ["/", "/srv", "/srv/project", NOTES])
         self.assertEqual(self.verb("why", "mara", NOTES, "--tsv").out.decode().split("\n")[4],
                          NOTES + "\tuser:mara:rw-\t")
-        for words, text in ((("mora", NOTES), b"facl why: mora: is no user of the snapshot: there is mara\n"),
+        for words, text in ((("mora", NOTES), b"facl why: mora: no such user in the snapshot; did you mean mara?\n"),
                             (("mara", "/srv/project/absent"),
                              b"facl why: /srv/project/absent: is not recorded: the snapshot is of /srv/project\n")):
             self.expect(self.verb("why", *words), 2, b"", text)
@@ -262,7 +262,7 @@ guest can do nothing with /srv/project/notes.txt: /srv/project gives no search p
             self.assertEqual(self.verb(*words).status, 0)
         part = os.fsencode(os.path.join(self.store, name, "001"))
         for words in (["who", "read"], ["page"], ["plan", "edits"], ["ask", "script"]):
-            text = b"facl %s: %s: is in parts, of which facl %s takes one: -s %s\n" % (
+            text = b"facl %s: %s: has several parts; facl %s takes one: -s %s\n" % (
                 words[0].encode(), name.encode(), words[0].encode(), part)
             self.expect(self.verb(*words), 2, b"", text)
         self.assertIn(self.verb("who", "read", "-s", os.fsdecode(part)).status, (0, 1))
@@ -288,7 +288,7 @@ guest can do nothing with /srv/project/notes.txt: /srv/project gives no search p
             self.assertEqual(timer.settings_of(given), timer.HEAD + text)
             with mock.patch.multiple(timer, UNITS=(self.path("units"),), SETTINGS=settings):
                 said = [self.installed(given), self.installed(given)]
-        self.assertEqual(said, [b"", b"the settings that were there are " + settings + b".before now"])
+        self.assertEqual(said, [b"", b"kept the earlier settings as " + settings + b".before"])
         self.assertEqual(self.read("etc/facl-daily"), timer.HEAD + text)
         self.assertEqual(sorted(os.listdir(self.path("etc"))), ["facl-daily", "facl-daily.before"])
         self.assertEqual(self.read("called"), b"enable --now facl-daily.timer\n" * 2)

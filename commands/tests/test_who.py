@@ -128,7 +128,7 @@ class Rights(WhoCase):
                                    b"ben                 1  /srv/drop    other\n"
                                    b"mara                1  /srv/drop    other\n"
                                    b"guest               2  /srv/drop    other\n",
-                                b"facl-who: left out: 3 users who are no people (--all-users): daemon, www-data, nobody\n"))
+                                b"facl-who: 3 system accounts not shown (daemon, www-data, nobody); --all-users shows them\n"))
         users = [row[0] for row in self.rows("--all-users", "--with-root", "write", "recipes", "/srv/drop")]
         self.assertEqual(users, ["everybody else", "root", "daemon", "www-data", "ines", "ben", "mara", "guest", "nobody"])
 
@@ -200,7 +200,7 @@ class EverybodyElse(WhoCase):
         self.assertEqual(self.read_json(*words)["user"], "everybody\\040else")  # A user of that name.
         users = [row[0] for row in self.rows("--all-users", "read", "recipes", "/srv/drop")]
         self.assertEqual((users[0], users[-1], len(users)), ("everybody else", "everybody\\040else", 9))
-        self.assertIn(b"is no user of the snapshot", self.who("--owner", "everybody else", "project").messages)
+        self.assertIn(b"no such user in the snapshot", self.who("--owner", "everybody else", "project").messages)
 
     def test_the_number_of_a_directory_service(self) -> None:
         for name in ("recipes", "project"):
@@ -250,7 +250,7 @@ class OneUser(WhoCase):
     def test_each_file_alone(self) -> None:
         self.assertEqual(self.rows("--user", "guest", "project", status=1), [])
         self.expect(self.who("--user", "guest", "project"), 1, b"guest may read, write and enter nothing at or below /srv/project\n")
-        note = b"has the uid 0, to which the kernel grants nearly everything; this is what lists grant it\n"
+        note = b"has the uid 0, to which the kernel grants nearly everything; this is what ACLs grant it\n"
         for words, has_note in ((["--user", "root"], True), (["--user", "0"], True), (["--user", "root", "--with-root"], False)):
             self.assertEqual(note in self.who(*words, "project").messages, has_note, words)
         self.assertEqual(self.rows("--user", "guest", "--file-alone", "project"), [
@@ -270,7 +270,7 @@ class OneUser(WhoCase):
         self.write("project/passwd", passwd + b"4711:x:4711:100::/:\n4712:x:4711:100::/:\n")
         self.write("project/meta", b"")
         self.assertEqual(self.who("--user", "4711", "project").status, 0)
-        self.assertIn(b"4711: is the id of no user", self.who("--user", "4" * 5000, "project").messages.replace(b"4" * 4996 + b"4444", b"4711"))
+        self.assertIn(b"4711: no user of the snapshot has this id", self.who("--user", "4" * 5000, "project").messages.replace(b"4" * 4996 + b"4444", b"4711"))
 
     def test_requests_that_no_entry_grants_at_once(self) -> None:
         # acl(5): of the group class one entry has to have all of a request.
@@ -298,7 +298,7 @@ class Files(WhoCase):
     def test_an_id_without_a_row(self) -> None:
         self.write("project/passwd", self.read("project/passwd").replace(b"mara:x:1003:100:Mara Voss:/home/mara:/bin/sh\n", b""))
         self.assertEqual(self.who("--owner", "1003", "project").messages,
-                         b"facl-who: warning: project/passwd: has 4 rows, and facl-snapshot recorded 5\n")
+                         b"facl-who: warning: project/passwd: has 4 rows, but facl snapshot recorded 5\n")
         self.write("project/meta", self.read("project/meta").replace(b"users 5\n", b""))
         self.assertEqual(len(self.rows("--owner", "1003", "project")), 4)
         self.assertEqual(self.rows("--names", "1003", "project", "/srv/project/notes.txt"), [
@@ -344,8 +344,8 @@ class Remove(WhoCase):
         demo = os.path.join(COMMANDS, "..", "demo")
         done = self.who("--remove", "project", demo)
         self.assertEqual((done.status, done.out), (2, b""))
-        self.assertTrue(done.messages.endswith(b"facl-who: project: the folder above it is not recorded, so nobody knows who may change it: make a "
-                                               b"snapshot by facl-snapshot\n"))
+        self.assertTrue(done.messages.endswith(b"facl-who: project: its parent directory is not recorded, so nobody knows who may change it; make a "
+                                               b"snapshot with facl snapshot\n"))
 
     def test_json(self) -> None:
         found = self.read_json("--remove", "/srv/drop/note", "recipes")
@@ -370,7 +370,7 @@ class NewFile(WhoCase):
             "default:user::rwx", "default:group::r-x", "default:group:design:rwx", "default:mask::rwx", "default:other::---"])
         self.assertEqual(self.who(*words), self.who("--umask", "077", *words))
         self.assertTrue(self.who(*words).out.endswith(
-            b"by the default list of /srv/project\n"
+            b"by the default ACL of /srv/project\n"
             b"the new file may be read by ines, ben, mara, and written by ines, mara\n"
             b"the new folder may be read by ines, ben, mara, and written by ines, mara\n"))
 
@@ -379,20 +379,20 @@ class NewFile(WhoCase):
         self.assertEqual(self.entries("file", *words), ["# owner: ines", "# group: staff", "user::rw-", "group::r--", "other::r--"])
         self.assertEqual(self.entries("folder", "--umask", "027", *words), ["# owner: ines", "# group: staff", "user::rwx", "group::r-x", "other::---"])
         self.assertTrue(self.who("--umask=7", *words).out.endswith(
-            b"/srv/payroll has no default list, so the umask counts, taken as 7\n"
+            b"/srv/payroll has no default ACL, so the umask counts, taken as 7\n"
             b"the new file may be read by ines, ben, and written by ines, ben\n"
             b"the new folder may be read by ines, ben, and written by ines, ben\n"))
 
     def test_who_may_not(self) -> None:
         self.expect(self.who("--new-file", "/srv/project", "guest", "project"), 1, b"guest may make no file in /srv/project\n")
         self.assertEqual(self.read_json("--new-file", "/srv/project", "ben", "project", status=1)["new"], [])
-        self.expect(self.who("--new-file", "/srv/project/README", "ines", "project"), 2, b"", b"facl-who: /srv/project/README: is no folder\n")
+        self.expect(self.who("--new-file", "/srv/project/README", "ines", "project"), 2, b"", b"facl-who: /srv/project/README: is not a folder\n")
 
     def test_others_who_may(self) -> None:
         self.write("project/passwd", self.read("project/passwd") + b"www-data:x:33:100::/:\n")
         self.write("project/meta", b"")
         words = ["--new-file", "/srv/project", "mara", "project"]
-        self.assertIn(b"left out: ", self.who(*words).messages)
+        self.assertIn(b"1 system account not shown", self.who(*words).messages)
         left_out = json.loads(self.who("--json", *words).out)["left_out"]
         self.assertIn("www-data", left_out)
         self.assertNotIn("www-data", json.loads(self.who("--json", "--all-users", *words).out)["left_out"])
@@ -463,16 +463,16 @@ class Words(WhoCase):
     def test_rights(self) -> None:
         for word in ("before", "", "-", "read,", "rwq", "READ", "7"):
             self.assertEqual(self.message("--", word, "project"), b"facl-who: " + word.rpartition(",")[2].encode()
-                             + b": is no right: read, write, enter, or letters of rwx, with commas between several\n")
+                             + b": is not a right; give read, write, enter, or letters of rwx, with commas between several\n")
 
     def test_snapshots(self) -> None:
         os.mkdir(self.path("empty"))
         for name in ("nowhere", "empty"):
-            self.assertEqual(self.message("read", name), b"facl-who: " + name.encode() + b": is no snapshot, which is made as root by facl-snapshot "
-                             b"DIR FOLDER; the words here are: facl-who PERMS[,PERMS..] SNAPSHOT [FOLDER..]\n")
-        self.assertEqual(self.message("read", "project/dump"), b"facl-who: project/dump: is a file, and no snapshot; a file of getfacl -R comes "
-                         b"by --dump project/dump; the words here are: facl-who PERMS[,PERMS..] SNAPSHOT [FOLDER..]\n")
-        self.assertIn(b"the words here are: facl-who --new-file FOLDER USER [--umask MASK] SNAPSHOT\n",
+            self.assertEqual(self.message("read", name), b"facl-who: " + name.encode() + b": is not a snapshot; make one as root with facl "
+                             b"snapshot FOLDER; the words are: facl-who PERMS[,PERMS..] SNAPSHOT [FOLDER..]\n")
+        self.assertEqual(self.message("read", "project/dump"), b"facl-who: project/dump: is a file, not a snapshot; if getfacl -R "
+                         b"printed it, make one of it: facl import project/dump; the words are: facl-who PERMS[,PERMS..] SNAPSHOT [FOLDER..]\n")
+        self.assertIn(b"the words are: facl-who --new-file FOLDER USER [--umask MASK] SNAPSHOT\n",
                       self.message("--new-file", "project", "/srv/project", "mara"))
         self.write("project/group", b"staff\n")
         self.write("project/meta", b"")
@@ -495,12 +495,12 @@ class Words(WhoCase):
 
     def test_files_and_users(self) -> None:
         self.assertEqual(self.message("read", "project", "/tmp"), b"facl-who: /tmp: is not recorded: the snapshot is of /srv/project\n")
-        self.assertEqual(self.message("read", "project", ""), b"facl-who: an empty word is no FILE or FOLDER; all files are those of /\n")
+        self.assertEqual(self.message("read", "project", ""), b"facl-who: an empty word is not a FILE or FOLDER; / means all files\n")
         self.assertEqual(self.message("--remove", "/srv/project/nothing", "project"),
                          b"facl-who: /srv/project/nothing: is not recorded: the snapshot is of /srv/project\n")
-        self.assertEqual(self.message("--user", "mata", "project"), b"facl-who: mata: is no user of the snapshot: there is mara\n")
-        self.assertEqual(self.message("--owner", "nobody-at-all", "project"), b"facl-who: nobody-at-all: is no user of the snapshot\n")
-        self.assertEqual(self.message("--user", "77", "project"), b"facl-who: 77: is the id of no user of the snapshot\n")
+        self.assertEqual(self.message("--user", "mata", "project"), b"facl-who: mata: no such user in the snapshot; did you mean mara?\n")
+        self.assertEqual(self.message("--owner", "nobody-at-all", "project"), b"facl-who: nobody-at-all: no such user in the snapshot\n")
+        self.assertEqual(self.message("--user", "77", "project"), b"facl-who: 77: no user of the snapshot has this id\n")
 
     def test_options(self) -> None:
         for words in (["read"], ["--user", "mara"], ["--user", "mara", "--owner", "mara", "project"], ["--json", "--tsv", "read", "project"],

@@ -56,7 +56,7 @@ class VerbCase(Case):
     def without_name(self, text: bytes, name: bytes) -> List[bytes]:
         """The messages, but for the name before each, and for a plan that is replaced by the second run."""
         lines = (line[len(name):] if line.startswith(name) else line for line in text.split(b"\n"))
-        return [line for line in lines if b"the plan that was there" not in line]
+        return [line for line in lines if b"kept the earlier plan" not in line]
 
     def verb(self, *words: str, environment: Optional[Dict[str, str]] = None, text: bytes = b"") -> Done:
         return self.run_command("facl-verbs", [*words], text,

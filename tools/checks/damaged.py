@@ -160,7 +160,7 @@ class Damaged(Check):
         return f"{name!r} of the plan: {damage_file(tree.chance, os.path.join(self.plan, name))}"
 
     def apply_damaged(self, tree: Tree) -> None:
-        """A damaged plan is refused, and nothing is touched; or it says something else, and is undone."""
+        """A damaged plan is refused, and nothing was changed; or it says something else, and is undone."""
         if tree.chance.random() < 0.3:  # It has a journal and a state then.
             for options in ((), (UNDO,)):
                 self.ends_well((b"facl-apply", *options, self.plan), (0, 3), "the whole plan")

@@ -32,7 +32,7 @@ WAYS: List[List[bytes]] = [[], [UNDO]]
 # that is made again at once often gets the number of the one before.
 REPLACED = b": was replaced by another file"
 CHANGES = {
-    "list": (b'setfacl -m u:4711:r "$0"', b": was changed: access list"),
+    "list": (b'setfacl -m u:4711:r "$0"', b": was changed: access ACL"),
     "owner": (b'chown 4711 "$0"', b": was changed: owner"),
     "flags": (b'if [ -k "$0" ]; then chmod -t "$0"; else chmod +t "$0"; fi', b": was changed: flags"),
     "gone": (b'mv "$0" "$0.away"', b": is "),
@@ -77,13 +77,13 @@ class Ways(Check):
         return CHANGES[kind][1]
 
     def check_meddled(self, tree: Tree) -> None:
-        """Apply after somebody's change: it is refused, and nothing is touched; or the change stays as it is."""
+        """Apply after somebody's change: it is refused, and nothing was changed; or the change stays as it is."""
         said = self.meddle(tree)
         tree.first = tree.listing()
         if said:
             done = self.apply()
             must(done, 1, said=said)
-            must(done, 1, said=b"nothing is touched")
+            must(done, 1, said=b"nothing was changed")
             is_untouched = tree.listing() == tree.first and not os.path.exists(self.name("before.plan/state"))
             expect(is_untouched, "something was touched, though it was refused")
             return
@@ -245,7 +245,7 @@ class Ways(Check):
         self.overlay(tree)
 
     def full_disk(self, tree: Tree) -> None:
-        """The plan's folder is on a full disk: nothing is touched."""
+        """The plan's folder is on a full disk: nothing was changed."""
         place = self.name("small")
         plan, filled = os.path.join(place, b"plan"), os.path.join(place, b"filled")
         with mounted(place, b"-t", b"tmpfs", b"-o", b"size=1m,mode=755", b"none"):
@@ -254,7 +254,7 @@ class Ways(Check):
                 before = tree.listing()
                 run([b"cp", b"/dev/zero", filled])
                 done = self.command(b"facl-apply", *options, plan)
-                must(done, 2, said=b"nothing is touched")
+                must(done, 2, said=b"nothing was changed")
                 expect(tree.listing() == before and b"No space left" in done.stderr, f"a full disk: {done}")
                 os.unlink(filled)
                 must(self.command(b"facl-apply", *options, plan), 0)
@@ -267,7 +267,7 @@ class Ways(Check):
             must(self.apply(), 2, said=b"is on a file system that is mounted read-only")
 
     def nobody_may(self, tree: Tree) -> None:
-        """A file of the plan is immutable, or can only be appended to: nothing is touched; at --undo all but that file is put
+        """A file of the plan is immutable, or can only be appended to: nothing was changed; at --undo all but that file is put
         back."""
         planned = sorted(records_of(self.read("before.plan/new")))
         name = planned[len(planned) // 2]

@@ -333,7 +333,7 @@ class Others(Check):
         self.name_wanted()
 
     def tampered(self, name: str, how: str) -> None:
-        """A plan, or a snapshot, that somebody else can have written: nothing is touched."""
+        """A plan, or a snapshot, that somebody else can have written: nothing was changed."""
         is_plan = name.startswith("before.plan")
         folder, kept = self.plan if is_plan else self.name("before"), self.name("kept")
         copy(folder, kept)

@@ -136,7 +136,7 @@ class Snapshots(Check):
         self.shell("mkdir empty full; echo mine >mine; echo mine >full/mine; ln -s empty leads")
         os.symlink(self.program, self.name("program"))
         self.took(2, "mine closed")
-        self.took(2, "full closed", "full: is there, and is no snapshot")
+        self.took(2, "full closed", "full exists and is not a snapshot")
         expect(self.read("mine") + self.read("full/mine") == b"mine\nmine\n", "a file of mine is gone")
         for words in ("empty closed", "leads closed", "--program ./program -- -dash closed/share"):
             self.took(0, words)
@@ -271,7 +271,7 @@ class Snapshots(Check):
         self.make("shut/none/file", "shut/names/sub/")
         make(self.name("theirs/"), 0o755, NOBODY, NOBODY)
         self.shell("chmod 0 shut/none; chmod 744 shut/names")
-        self.took(1, "theirs/before shut", "so that the dump lacks them or what is in them: 2, first: "
+        self.took(1, "theirs/before shut", "2 files could not be read and are missing from the snapshot, first: "
                   f"{self.text('shut/names/sub')}: cannot be opened: Permission denied", user=NOBODY)
         os.symlink(self.name("theirs/before"), self.name("before"))
         there = self.lines("dump")
@@ -369,10 +369,10 @@ class Snapshots(Check):
                 place = self.name("marks/" + below)
                 mounts.enter_context(mounted(place, b"--bind", place))
                 must(run([b"mount", b"-o", b"remount,bind," + how, place]), 0)
-            self.took(0, "--cross-file-systems before marks", f"immutable files, which nobody can write whatever lists say (see marks): 3, first: {top}both",
+            self.took(0, "--cross-file-systems before marks", f"immutable files, which nobody can write whatever their ACLs say (see marks): 3, first: {top}both",
                       f"append-only files, of which nobody can change what they have (see marks): 2, first: {top}both",
-                      f"files on read-only file systems, which nobody can write whatever lists say (see marks): 2, first: {top}ro/",
-                      f"files with a list of Samba (security.NTACL), by which Samba judges too, and facl does not: 2, first: {top}plain")
+                      f"files on read-only file systems, which nobody can write whatever their ACLs say (see marks): 2, first: {top}ro/",
+                      f"files with an ACL of Samba (security.NTACL), which Samba checks too, and facl does not: 2, first: {top}plain")
             self.shell("""cd marks; chattr -i sealed both "$(printf 'l\nf')"; chattr -a log both""")
         known = ["immutable both", "append-only both", "immutable l\\012f", "append-only log", "rw,noexec no/", "ro ro/", "rw ro/device", "rw ro/fifo",
                  "rw ro/rw/", "immutable sealed/"]
@@ -396,8 +396,8 @@ class Snapshots(Check):
             self.untrusted("theirs/" + last, "theirs: belongs to")
         self.untrusted("sticky/leads/new", "sticky/leads: belongs to nobody")
         self.shell("cd trust/theirs; chown 0 .; chown 65534 mine/snapshot/links")
-        has_other = "is there, and is no snapshot of yours, or has other files too: links"
-        self.untrusted("theirs/mine/snapshot", f"theirs/mine/snapshot: {has_other}")
+        has_other = "exists and is not a snapshot of yours, or has other files: links"
+        self.untrusted("theirs/mine/snapshot", f"theirs/mine/snapshot {has_other}")
         self.shell("cd trust/theirs; chown 0:65534 mine; chmod 770 mine")
         self.untrusted("theirs/mine/new", "theirs/mine: others than its owner can write there")
         self.shell("cd trust/theirs; chmod 750 mine; setfacl -m u:nobody:rx mine")

@@ -66,7 +66,7 @@ def left_by(step: Callable[[], None]) -> Iterator[bytes]:
     try:
         step()
     except Mismatch as fault:
-        yield fault.text + b"; it is left as it is"
+        yield fault.text + b"; it stays as it is"
 
 
 def body(command: Command, words: List[str]) -> int:

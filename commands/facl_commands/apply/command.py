@@ -24,7 +24,7 @@ Gives the files of a PLAN, which facl-plan wrote, their new owners, groups, flag
 root, or as the owner of all of them.
 
 First the files are compared with what they were when the plan was made: where somebody changed or replaced one
-meanwhile, they are named, and nothing is touched. Then each gets its new record, and is compared with the plan: where
+meanwhile, they are named, and nothing was changed. Then each gets its new record, and is compared with the plan: where
 one differs, it is named, and all get their old records back. So they do where the command is interrupted. Where it is
 killed, run it again, to go on or with --undo: PLAN has what it was about.
 
@@ -33,7 +33,7 @@ others do to its name, no other file is changed. What it does not do is in PLAN/
 """
 STATUS = """\
 The exit status is 0 where it is done, and 3 where there is nothing to do; 1 where it is not done, and the files are
-as they were; 2 where the words, the plan or the system do not allow it, and nothing is touched; 4 where files are
+as they were; 2 where the words, the plan or the system do not allow it, and nothing was changed; 4 where files are
 neither as they were nor as they should be: they are named; 5 where it is done, and that could not be written.
 """
 
@@ -60,8 +60,8 @@ def say_cut_off(command: Command, way: Direction, look: Look) -> None:
     files = way.work.files
     old = sum(seen.record == files[path].old for path, seen in look.files.items())
     new = sum(seen.record == files[path].new for path, seen in look.files.items())
-    command.say(b"an earlier run was cut off: %d as they were, %d as planned, %d between the two" %
-                (old, new, len(look.files) - old - new))
+    command.say(b"an earlier run was interrupted: %s unchanged, %d changed, %d half-changed" %
+                (counted(old, "file"), new, len(look.files) - old - new))
 
 
 def say_list(command: Command, way: Direction, found: Dict[bytes, bytes], files: Mapping[bytes, Seen] = {}) -> None:
@@ -77,21 +77,21 @@ def say_changed(command: Command, way: Direction, look: Look, found: Dict[bytes,
     say_list(command, way, found, look.files)
     count = counted(len(found), "file is", "files are")
     if way.is_undo:
-        command.say(count + b" not as the plan left " + (b"it" if len(found) == 1 else b"them")
-                    + b", so nothing is touched; --leave-changed takes back the others")
+        command.say(b"nothing was changed: " + count + b" not as the plan left " + (b"it" if len(found) == 1 else b"them")
+                    + b"; --leave-changed restores the others")
     else:
-        command.say(count + b" not as in the snapshot, so nothing is touched: make a new snapshot and a new plan")
+        command.say(b"nothing was changed: " + count + b" not as in the snapshot; make a new snapshot and a new plan")
 
 
 def nothing_to_do(command: Command, way: Direction) -> bool:
     """Whether the state of the plan leaves nothing to do."""
     name = way.folder.name
     if not way.work.files:
-        command.say(name + b": has no records to change")
+        command.say(name + b": changes no file")
     elif way.is_undo and way.state in (b"", plan_folder.UNDONE):
-        command.say(name + b": is not applied, so there is nothing to undo")
+        command.say(name + b": was not applied; there is nothing to undo")
     elif not way.is_undo and way.state == plan_folder.APPLIED:
-        command.say(name + b": is applied already; --undo takes it back")
+        command.say(name + b": was applied already; facl undo takes it back")
     else:
         return False
     return True
@@ -99,15 +99,14 @@ def nothing_to_do(command: Command, way: Direction) -> bool:
 
 def warn_of_inodes(command: Command, way: Direction) -> None:
     if way.journal is None and plan_files.NOWHERE in (file.identity for file in way.work.files.values()):
-        command.say(b"warning: the snapshot has no inodes, so a file that was replaced by one of the same owner, "
-                    b"group, flags and "
-                    b"lists is not known")
+        command.say(b"warning: the snapshot has no inodes, so nobody notices a file that was replaced by another of the "
+                    b"same owner, group, flags and ACL")
 
 
 def warn_of_host(command: Command, way: Direction) -> None:
     about = meta.read_meta(way.folder.read(meta.NAME)) if way.folder.has(meta.NAME) else meta.UNKNOWN
     if meta.is_of_another_host(about):
-        command.say(b"warning: the snapshot is " + about.text() + b", which is another host than this one")
+        command.say(b"warning: the snapshot is " + about.text() + b", not of this host")
 
 
 def warn_of_names(command: Command, look: Look) -> None:
@@ -115,7 +114,7 @@ def warn_of_names(command: Command, look: Look) -> None:
     names = Counter(seen.identity for seen in plain.values())
     found = [path for path, seen in plain.items() if seen.names > names[seen.identity]]
     if found:
-        command.say(b"warning: files with names that are not in the plan, which are the same files: %d, first: %s" %
+        command.say(b"warning: files with other hard links that are not in the plan, and change too: %d, first: %s" %
                     (len(found), live_name(found[0])))
 
 
@@ -126,7 +125,7 @@ def end(command: Command, way: Direction, carrier: Carrier, state: bytes) -> Non
         carrier.end(state)
     except OSError as error:
         command.say(way.folder.name + b": cannot be written: " + reason(error)
-                    + b"; facl-apply will say that it was cut off")
+                    + b"; the next run will say that this one was interrupted")
 
 
 def put_back(command: Command, way: Direction, carrier: Carrier) -> int:
@@ -135,15 +134,14 @@ def put_back(command: Command, way: Direction, carrier: Carrier) -> int:
     if left:
         return say_in_part(command, way, left)
     end(command, way, carrier, plan_folder.UNDONE)
-    command.say(b"the old owners, groups, flags and lists are back")
+    command.say(b"restored the old owners, groups, flags and ACLs")
     return NOT_DONE
 
 
 def say_in_part(command: Command, way: Direction, left: Dict[bytes, bytes]) -> int:
     say_list(command, way, left)
     command.say(counted(len(left), "file is", "files are")
-                + b" not as before: mend what keeps facl-apply from it, then run "
-                b"facl-apply --undo " + shell_word(way.folder.name))
+                + b" not as before: remove the cause, then run facl undo " + shell_word(way.folder.name))
     return IN_PART
 
 
@@ -155,11 +153,11 @@ def carry_out(command: Command, way: Direction, carrier: Carrier, is_whole: bool
             carrier.begin()
         except OSError as error:
             raise Failure(way.folder.name + b": cannot be written: " + reason(error)
-                          + b"; nothing is touched") from error
+                          + b"; nothing was changed") from error
         try:
             status = give_all(command, way, carrier, is_whole)
         except MemoryError:
-            command.say(b"memory ran out, so files may be neither as they were nor as they should be: run facl-apply --undo "
+            command.say(b"memory ran out, so files may be half-changed: run facl undo "
                         + shell_word(way.folder.name))
             status = IN_PART
         if status != NOT_DONE:
@@ -176,8 +174,7 @@ def give_all(command: Command, way: Direction, carrier: Carrier, is_whole: bool)
         return put_back(command, way, carrier)
     whole = plan_folder.UNDONE if way.is_undo else plan_folder.APPLIED
     end(command, way, carrier, whole if is_whole else plan_folder.UNDONE_IN_PART)
-    command.tell(counted(len(carrier.seen), "file is", "files are")
-                 + (b" as before" if way.is_undo else b" as planned"))
+    command.tell((b"restored " if way.is_undo else b"changed ") + counted(len(carrier.seen), "file"))
     return DONE
 
 
@@ -227,13 +224,13 @@ def body(command: Command, words: List[str]) -> int:
         say_changed(command, way, look, changed)
         return NOT_DONE
     if changed:
-        left = {path: text + b"; it is left as it is" for path, text in changed.items()}
+        left = {path: text + b"; it stays as it is" for path, text in changed.items()}
         say_list(command, way, left, look.files)
         look = look.without(changed)
     obstacles = Obstacles(way, given.drop_capabilities).all(look)
     if obstacles:
         say_list(command, way, obstacles)
-        raise Failure(b"nothing is touched")
+        raise Failure(b"nothing was changed")
     warn_of_names(command, look)
     warn_of_inodes(command, way)
     if given.dry_run:

@@ -97,7 +97,7 @@ def fault_of(way: Direction, devices: Devices, path: bytes, seen: Seen) -> Optio
     """Why a file is not the one that the plan is about."""
     file = way.work.files[path]
     if seen.is_directory != file.is_directory:
-        return b"is no directory now" if file.is_directory else b"is a directory now"
+        return b"is not a directory now" if file.is_directory else b"is a directory now"
     if not devices.is_same(plan_files.recorded_identity(path, file, way.journal), seen.identity):
         return b"was replaced by another file"
     return None
@@ -190,11 +190,11 @@ class Obstacles:
     def of_right(self, path: bytes, seen: Seen) -> Optional[bytes]:
         """Of a caller who is not root."""
         if seen.record.owner != os.geteuid():
-            return b"is not yours: run facl-apply as root"
+            return b"is not yours: run it as root"
         if seen.record.ids() != self.way.end(path).ids():
-            return b"would get another owner or group: run facl-apply as root"
+            return b"would get another owner or group: run it as root"
         if loses_group_flag(self.way.start(path), self.way.end(path)):
-            return b"would lose set-group-ID, since you are not in its group: run facl-apply as root"
+            return b"would lose set-group-ID, since you are not in its group: run it as root"
         return None
 
     def of_system(self, opener: Opener, path: bytes, seen: Seen) -> Optional[bytes]:
@@ -223,7 +223,7 @@ class Obstacles:
             return (b"would become another file, since it is " + why + b" in a lower layer of an overlay: chmod it to "
                     b"the mode that it has, and make a new snapshot and a new plan")
         if not self.has_lists[device] and (end.default or not is_minimal(end.access)):
-            return b"is on a file system without access control lists"
+            return b"is on a file system without ACLs"
         if self.drops_capabilities or seen.is_directory or seen.record.ids() == end.ids():
             return None
         if live.attribute(file.name, live.CAPABILITY) is not None:

@@ -83,7 +83,7 @@ def seconds_of(word: str) -> int:
     """A number of seconds that a wait can have."""
     found = int(word) if re.fullmatch("[0-9]{1,7}", word) else 0
     if found == 0:
-        raise argparse.ArgumentTypeError(word + ": is no number from 1 to 9999999")
+        raise argparse.ArgumentTypeError(word + ": is not a number from 1 to 9999999")
     return found
 
 

@@ -12,7 +12,7 @@ from ..model.rules_of_lists import grants_search
 from ..program.scripts import Unit
 from ..program.tools import OF_RECORDS, OPTIONS, REACH, split
 
-MARK = b"    <-- here is no search: nothing below is reached"
+MARK = b"    <-- no search permission here: nothing below is reached"
 BESIDE = b"    <-- "  # Before what is said of a file beside its list.
 # Those that print the entries which decide, also of the directories above.
 BY_ENTRIES = tuple(tool for tool in OF_RECORDS if REACH in OPTIONS[tool])

@@ -126,7 +126,7 @@ class Folder:
         size, _ = texts[-1].content
         if size > FILE_LIMIT:
             raise Failure(self.name + b": its dump has more than 268,435,456 bytes, the most that the program reads: take several "
-                          b"snapshots by facl-snapshot --split")
+                          b"snapshots with facl snapshot --split")
         return words, [text.descriptor for text in texts]
 
 

@@ -95,9 +95,9 @@ def seen_of(status: Status, name: bytes, follow: bool = True, beside: Beside = (
 def fixed(seen: Seen) -> Optional[bytes]:
     """By which attribute nobody can change the owner, mode and lists of a file; None where it has none."""
     if seen.beside[0] & linux.IMMUTABLE:
-        return b"is immutable, so nobody can change it: chattr -i it before"
+        return b"is immutable, so nobody can change it; run chattr -i first"
     if seen.beside[0] & linux.APPEND_ONLY:
-        return b"is append-only, so nobody can change its owner, mode and lists: chattr -a it before"
+        return b"is append-only, so nobody can change its owner, mode and ACL; run chattr -a first"
     return None
 
 

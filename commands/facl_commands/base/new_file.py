@@ -17,7 +17,7 @@ CREATE = os.O_RDWR | os.O_CREAT | os.O_EXCL | os.O_NOFOLLOW | os.O_CLOEXEC
 
 
 def give_mode(descriptor: int, mode: int) -> None:
-    """Gives a new file or folder this mode, without the lists that it has by the default list of the folder above."""
+    """Gives a new file or folder this mode, without the lists that it has by the default ACL of the folder above."""
     for name in (acl_bytes.ACCESS, acl_bytes.DEFAULT):
         try:
             os.removexattr(descriptor, name)
@@ -81,12 +81,12 @@ class NewFile:
         self.name = name
         above, self.last = os.path.split(name)
         if self.last in (b"", b".", b".."):
-            raise Failure(name + b": is no name of a file")
+            raise Failure(name + b": cannot be the name of a file")
         self.folder = trusted.open_folder(above or b".")
         with failing(name, True):
             was_there = is_there(self.last, self.folder)
         if was_there:
-            raise Failure(name + b": is there already, and is not replaced")
+            raise Failure(name + b" exists and is not replaced; choose another name")
 
     def write(self, text: bytes) -> None:
         """Makes the file with this text. Where that fails, or is interrupted, nothing is left behind; once the file has

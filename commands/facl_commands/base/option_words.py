@@ -5,7 +5,7 @@ from typing import Callable, Dict, List, Sequence, Tuple
 
 from .messages import Failure
 
-NO_OPTION, TAKES_A_WORD = ": is no option", ": takes a word"
+NO_OPTION, TAKES_A_WORD = ": is not an option", ": takes a word"
 Values = Dict[str, List[str]]  # By each option, those that it came with, which are empty of one that takes none.
 
 

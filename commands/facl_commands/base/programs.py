@@ -25,11 +25,11 @@ class KnownProgram(NamedTuple):
         found = [shutil.which(it) or "" for it in ([wanted] if wanted else [self.name, installed, built])]
         if not any(found):
             raise Failure(os.fsencode(wanted) + b": no such program" if wanted else
-                          b"the program %s is not on the path: give it by --program FILE" % self.name.encode() + self.instead)
+                          b"the program %s is not on the path: give it with --program FILE" % self.name.encode() + self.instead)
         return os.path.abspath(next(filter(None, found)))
 
 
-LINUX = KnownProgram("facl_linux", "FACL_LINUX", b", or ask facl by --acl5")
+LINUX = KnownProgram("facl_linux", "FACL_LINUX", b", or ask facl with --acl5")
 ACL5 = KnownProgram("facl", "FACL", b"")
 
 

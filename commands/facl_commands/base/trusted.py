@@ -71,7 +71,7 @@ def fault_of(descriptor: int, look: os.stat_result) -> Optional[bytes]:
     doubt = doubt_of(descriptor, look)
     return None if doubt is None else {
         OF_OTHER: b"belongs to " + owner_name(look.st_uid), BY_ALL: b"can be written by everybody",
-        BY_OTHERS: b"can be written by others (its group, or users and groups of its access list)"}[doubt]
+        BY_OTHERS: b"can be written by others (its group, or users and groups of its ACL)"}[doubt]
 
 
 class Way:
@@ -207,7 +207,7 @@ def plain_file(descriptor: int, name: bytes) -> int:
     if stat.S_ISREG(mode) or stat.S_ISDIR(mode):
         return descriptor
     os.close(descriptor)
-    raise Failure(name + b": is no plain file")
+    raise Failure(name + b": is not a regular file")
 
 
 def read_all(file: IO[bytes], shown: bytes, most: int) -> bytes:
@@ -256,7 +256,7 @@ def open_in(folder: int, shown: bytes, name: bytes) -> int:
     with failing(shown + b"/" + name, True):
         descriptor = os.open(name, os.O_RDONLY | os.O_NOFOLLOW | os.O_NONBLOCK | os.O_CLOEXEC, dir_fd=folder)
     look = os.fstat(descriptor)
-    fault = b"is no plain file" if not stat.S_ISREG(look.st_mode) else fault_of(descriptor, look)
+    fault = b"is not a regular file" if not stat.S_ISREG(look.st_mode) else fault_of(descriptor, look)
     if fault is not None:
         os.close(descriptor)
         raise Failure(shown + b"/" + name + b": " + fault + b", so it is not trusted")
@@ -275,7 +275,7 @@ def read_in(folder: int, shown: bytes, name: bytes) -> bytes:
 def fault_of_mark(look: os.stat_result) -> Optional[bytes]:
     """Says why a file is none that a command of the caller made for itself; returns None if it can be one."""
     if not stat.S_ISREG(look.st_mode):
-        return b"is no plain file"
+        return b"is not a regular file"
     if look.st_uid != os.geteuid():
         return b"belongs to " + owner_name(look.st_uid)
     if look.st_nlink != 1:

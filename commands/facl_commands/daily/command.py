@@ -50,11 +50,11 @@ class Asking:
         new, given, old = os.fsdecode(self.place), self.given, self.names[-1] if self.names else b""
         if old:
             before = os.fsdecode(os.path.join(self.folder.name, old))
-            compared = self.ask(b"changes since %s (facl-diff)" % old, "facl-diff", *given.judge, before, new)
+            compared = self.ask(b"changes since %s (facl diff)" % old, "facl-diff", *given.judge, before, new)
         accepted = ["--accepted", given.accepted] if given.accepted else []
-        audited = self.ask(b"findings (facl-audit)", "facl-audit", *given.judge, "--fail-on", given.weight, *accepted, new)
+        audited = self.ask(b"findings (facl audit)", "facl-audit", *given.judge, "--fail-on", given.weight, *accepted, new)
         if given.rules:
-            self.ask(b"rules that do not hold (facl-check)", "facl-check", *given.judge, "--quiet", new, given.rules)
+            self.ask(b"rules that do not hold (facl check)", "facl-check", *given.judge, "--quiet", new, given.rules)
         is_usable = (compared if old else audited) in ANSWERED
         if not is_usable:
             self.text.add(b"facl-daily", b"the new snapshot is not kept, since what changed cannot be said; the next run "

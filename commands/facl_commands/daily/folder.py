@@ -75,7 +75,7 @@ class DailyFolder:
         try:
             fcntl.flock(descriptor, fcntl.LOCK_EX | fcntl.LOCK_NB)
         except BlockingIOError as error:
-            raise Failure(self.name + b": another facl-daily is at work there, or a command of one that was killed") from error
+            raise Failure(self.name + b": another facl daily is at work there, or a command of one that was killed") from error
         return descriptor
 
     def own_folder(self, name: bytes) -> Optional[os.stat_result]:
@@ -93,8 +93,8 @@ class DailyFolder:
             has_list, text = trusted.has_list(file.fileno()), file.read(LIST_LIMIT + 1)
         *lines, last = text.split(b"\n")
         wrong = next((number for number, line in enumerate(lines, 1) if not NAME.fullmatch(line)), 0)
-        for is_fault, fault in ((has_list, b"has an access list"), (len(text) > LIST_LIMIT, b"is too large"),
-                                (wrong, b"line %d is no name of a snapshot" % wrong), (last, b"its last line has no end")):
+        for is_fault, fault in ((has_list, b"has an ACL"), (len(text) > LIST_LIMIT, b"is too large"),
+                                (wrong, b"line %d is not the name of a snapshot" % wrong), (last, b"its last line has no end")):
             if is_fault:
                 raise trusted.mark_failure(self.name, MADE, fault)
         return [it for it in dict.fromkeys(lines) if self.own_folder(it) is not None]

@@ -14,7 +14,7 @@ usage: facl-daily [--folder DIR] [--keep COUNT] [--rules FILE] [--accepted FILE]
 """
 HELP = USAGE + """
 Takes a snapshot of the FOLDERs by facl-snapshot, as DIR/YYYY-MM-DD, and says what there is to look at: what differs from
-the snapshot before (facl-diff), findings (facl-audit), and rules that do not hold (facl-check). Where there is nothing it
+the snapshot before (facl diff), findings (facl audit), and rules that do not hold (facl check). Where there is nothing it
 prints nothing, so that cron sends no mail. Run it as root, once a day.
 
   --folder DIR      where the snapshots are; without it /var/lib/facl. It is made, for root alone, where it is not there
@@ -83,11 +83,11 @@ def fault_of(last: "dict[str, str]", is_split: bool, folders: List[str]) -> str:
     for is_wrong, text in (
             (not folders, "a FOLDER is missing, as in: facl-daily /srv/project"),
             (not last["--folder"], "--folder: takes a word"),
-            (not re.fullmatch("[1-9][0-9]{0,8}", last["--keep"]), f"--keep {last['--keep']}: is no number of snapshots"),
+            (not re.fullmatch("[1-9][0-9]{0,8}", last["--keep"]), f"--keep {last['--keep']}: is not a number of snapshots"),
             (last["--fail-on"] not in WEIGHTS, f"--fail-on {last['--fail-on']}: give high, middle, low or none"),
             (is_split and not re.fullmatch("[1-9][0-9]{0,6}", last["--split"]),
-             f"--split {last['--split']}: is no number from 1 to 9999999"),
-            (last["--mail"] and not ADDRESS.fullmatch(last["--mail"]), f"--mail {last['--mail']}: is no address"),
+             f"--split {last['--split']}: is not a number from 1 to 9999999"),
+            (last["--mail"] and not ADDRESS.fullmatch(last["--mail"]), f"--mail {last['--mail']}: is not an address"),
             *((not it.startswith("/"), it + ": give a FOLDER from the root on") for it in folders)):
         if is_wrong:
             return text

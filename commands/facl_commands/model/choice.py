@@ -25,7 +25,7 @@ def add_choice(parser: argparse.ArgumentParser, folders: str = "*", default: str
     parser.add_argument("--with-root", action="store_true",
                         help="also the users of uid 0, to whom the kernel grants nearly everything")
     parser.add_argument("--file-alone", action="store_true",
-                        help="judge each file alone, without search on the directories above it")
+                        help="judge each file alone, without search permission on its parent directories")
     if folders:
         parser.add_argument("folders", metavar="FOLDER", nargs=folders, default=[],
                             help="as on the live system, or from the root of the snapshot; without one, " + default)
@@ -52,10 +52,10 @@ def notes(left_out: Iterable[bytes], passwd: bytes) -> Iterator[bytes]:
     roots = [user for user in users if read_name(user) in superusers]
     accounts = [user for user in users if read_name(user) not in superusers]
     if accounts:
-        yield b"left out: %s who %s no people (--all-users): %s" % (
-            counted(len(accounts), "user"), b"is" if len(accounts) == 1 else b"are", few(accounts))
+        yield b"%s not shown (%s); --all-users shows %s" % (
+            counted(len(accounts), "system account"), few(accounts), b"it" if len(accounts) == 1 else b"them")
     if roots not in ([], [b"root"]):
-        yield b"left out, with the uid 0 (--with-root): " + few(roots)
+        yield b"users with the uid 0 not shown (" + few(roots) + b"); --with-root shows them"
 
 
 def few(names: List[bytes]) -> bytes:
@@ -81,7 +81,7 @@ def paths_of(word: bytes) -> List[bytes]:
 def refuse_empty(word: bytes) -> None:
     """Fails for a word without characters, as a variable that is not set leaves it: it would mean all files."""
     if not word:
-        raise Failure(b"an empty word is no FILE or FOLDER; all files are those of /")
+        raise Failure(b"an empty word is not a FILE or FOLDER; / means all files")
 
 
 def is_recorded(session: Session, path: bytes) -> bool:
@@ -127,5 +127,5 @@ def folders_of(session: Session, words: Iterable[str]) -> List[bytes]:
     found = [folder_of(session, os.fsencode(word)) for word in words]
     found = found or sources.find_tops(session, session.folder)
     if not found:
-        raise Failure(b"the snapshot has no files: make one by facl-snapshot")
+        raise Failure(b"the snapshot has no files; make one with facl snapshot")
     return found

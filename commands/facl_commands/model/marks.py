@@ -107,7 +107,7 @@ def alone(marks: Marks) -> Iterator[bytes]:
     kinds.update(kind for word in marks.mounts.values() for kind in beside.of_mount(word))
     parts = [counted(kinds[kind], noun) for kind, noun in COUNTED.items() if kinds[kind]]
     if parts:
-        yield b", ".join(parts) + b": judged by lists alone, which grant there what nobody can do"
+        yield b", ".join(parts) + b": judged by ACLs alone, which grant there what nobody can do"
 
 
 def not_judged(folder: bytes) -> Iterator[bytes]:
@@ -117,7 +117,7 @@ def not_judged(folder: bytes) -> Iterator[bytes]:
         yield b"files whose file systems do not say whether they are immutable: " + recorded[beside.ATTRIBUTES_UNKNOWN]
     parts = [b"%s: %s" % (text, recorded[kind]) for kind, text in OTHERS.items() if recorded.get(kind, b"0") != b"0"]
     if parts:
-        yield b"files with lists that facl does not judge: " + b", ".join(parts)
+        yield b"files with ACLs that facl does not judge: " + b", ".join(parts)
 
 
 # --- edits

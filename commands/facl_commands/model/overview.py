@@ -24,7 +24,7 @@ from .sources import Source
 
 IDS = {b"user": re.compile(USER_ID_LINE), b"group": re.compile(GROUP_ID_LINE)}
 OTHERS_WITH_SOMETHING, NAMED_ENTRY = (re.compile(line, re.MULTILINE) for line in (OPEN_OTHERS_LINE, NAMED_LINE))
-BY_ACL5 = b"judged by the check of acl(5) (--acl5); lists by which Linux grants otherwise, as their mask is empty: %d"
+BY_ACL5 = b"judged by the check of acl(5) (--acl5); ACLs by which Linux grants otherwise, as their mask is empty: %d"
 
 
 class LoadedTexts(NamedTuple):
@@ -143,7 +143,7 @@ def torn(texts: LoadedTexts) -> Iterator[bytes]:
     about = meta.meta_of(texts.folder)
     recorded = about.numbers
     if folder_of(texts.folder).has(b"inodes") and (about is meta.UNKNOWN or meta.FILES not in recorded):
-        yield b"meta: is not as facl-snapshot wrote it, so numbers, hosts and FOLDERs are not compared"
+        yield b"meta: is not what facl snapshot wrote, so numbers, hosts and FOLDERs are not compared"
     for name, key, number, noun in (
         (b"dump", meta.FILES, files_in(texts.dump), "file"),
         (b"passwd", meta.USERS, texts.passwd.count(b"\n"), "row"),
@@ -152,7 +152,7 @@ def torn(texts: LoadedTexts) -> Iterator[bytes]:
         (beside.NAME, meta.MARKED, marks.text_of(texts.folder).count(b"\n"), "line"),
     ):
         if recorded.get(key, b"%d" % number) != b"%d" % number:
-            yield name + b": has " + counted(number, noun) + b", and facl-snapshot recorded " + recorded[key]
+            yield name + b": has " + counted(number, noun) + b", but facl snapshot recorded " + recorded[key]
         elif key == meta.FILES and number == 0:
             yield name + b": has no files"
         elif key == meta.USERS and not rows_of(texts.passwd):

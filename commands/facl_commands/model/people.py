@@ -54,9 +54,13 @@ def user_word(users: Iterable[User], name: bytes) -> Optional[bytes]:
 
 def needed_word(users: Iterable[User], name: bytes, said: bytes) -> bytes:
     """The same; fails where there is none, with what a message calls the user."""
-    word = user_word(users, name)
+    known = list(users)
+    word = user_word(known, name)
     if word is None:
-        raise Failure(said + b": no question can name this user: digits alone are an id, and an earlier row has this one's id")
+        uid = next((user.uid for user in known if user.name == name), None)
+        owner = next((user.name for user in known if user.uid == uid and user.name != name), b"")
+        its = b", and the id of this user is also that of " + write_user(owner) if owner else b""
+        raise Failure(b"user \"%s\" cannot be asked for: digits alone mean an id" % said + its)
     return word
 
 

@@ -37,7 +37,7 @@ def read_inodes(text: bytes) -> Dict[bytes, Identity]:
 
 
 def fault_of_inodes(folder: bytes, text: bytes, inodes: Dict[bytes, Identity]) -> bool:
-    """Whether the file inodes is cut: it has fewer names than facl-snapshot recorded, or not even its first record."""
+    """Whether the file inodes is cut: it has fewer names than facl snapshot recorded, or not even its first record."""
     recorded = meta.meta_of(folder).numbers.get(meta.FILES, b"0")
     return not text.startswith(b"boot ") or not recorded.isdigit() or number_of(recorded) > len(inodes)
 
@@ -60,11 +60,11 @@ def nanoseconds(text: bytes) -> int:
 def check_texts(folder: bytes) -> Folder:
     """Opens the folder; fails where the program would not find its texts, or somebody else can have written them."""
     if not is_folder(folder):
-        raise Failure(folder + b": no such folder: make a snapshot by facl-snapshot")
+        raise Failure(folder + b": no such folder; make a snapshot with facl snapshot")
     found = folder_of(folder)
     for name in NEEDED:
         if not found.has(name):
-            raise Failure(folder + b": is no snapshot: " + name + b" is not in it")
+            raise Failure(folder + b": is not a snapshot: it has no " + name)
         found.open_text(name)  # Which fails where it is not trusted.
     return found
 
@@ -73,7 +73,7 @@ def read_snapshot(folder: bytes, needs_links: bool = True) -> Snapshot:
     """A snapshot; one without links, which facl-snapshot did not make, only where these are not needed."""
     found = check_texts(folder)
     if needs_links and not found.has(b"links"):
-        raise Failure(folder + b": is no snapshot: links is not in it: make one by facl-snapshot")
+        raise Failure(folder + b": is not a snapshot: it has no links; make one with facl snapshot")
     passwd, group = map(found.read, NEEDED[:2])
     links = read_links(found.optional(b"links"))
     text = found.optional(b"inodes")
@@ -82,10 +82,10 @@ def read_snapshot(folder: bytes, needs_links: bool = True) -> Snapshot:
     try:
         inodes = read_inodes(text)
     except ValueError as error:
-        raise Failure(folder + b"/inodes: is not as facl-snapshot wrote it" + again) from error
+        raise Failure(folder + b"/inodes: is not what facl snapshot wrote" + again) from error
     if found.has(b"inodes") and fault_of_inodes(folder, text, inodes):
-        raise Failure(folder + b"/inodes: has fewer names than facl-snapshot recorded" + again)
+        raise Failure(folder + b"/inodes: has fewer names than facl snapshot recorded" + again)
     if found.has(b"inodes") and fault_of_links(links, inodes):
-        raise Failure(folder + b"/links: has other names of files than inodes, so it is not as facl-snapshot wrote it"
+        raise Failure(folder + b"/links: has other names of files than inodes, so it is not what facl snapshot wrote"
                       + again)
     return Snapshot(folder, passwd, group, links, boot, inodes)

@@ -94,7 +94,7 @@ def folder_of_files(given: argparse.Namespace, name: bytes) -> Folder:
     found.add(DUMP, open_file(file), file)
     dump = found.read(DUMP)
     if dump and HAS_FILE.search(dump) is None:
-        raise Failure(file + b": is no dump: it has no line `# file: NAME`")
+        raise Failure(file + b": is not a dump: it has no line `# file: NAME`")
     lines: Set[bytes] = set()
     for database, rows in zip(DATABASES, (given.passwd, given.group_file)):
         if rows is not None:

@@ -26,7 +26,7 @@ def parts_in(folder: bytes) -> List[bytes]:
     for number, name in enumerate(names, 1):
         about = meta.meta_of(os.path.join(folder, name))
         if int(name) != number or about.numbers.get(meta.PART) != b"%s of %03d" % (name, len(names)):
-            raise Failure(folder + b": lacks parts of its tree, or has parts of another one: make it again by facl-snapshot --split")
+            raise Failure(folder + b": lacks parts of its tree, or has parts of another one: make it again with facl snapshot --split")
     return [os.path.join(folder, name) for name in names]
 
 

@@ -42,7 +42,7 @@ def parse(words: List[str]) -> argparse.Namespace:
     view = parser.add_mutually_exclusive_group()
     view.add_argument("--file-alone", action="store_true",
                       help="open the page with each file judged alone, and not along its path")
-    view.add_argument("--reach", action="store_true", help="open it along paths, as it does without a word")
+    view.add_argument("--reach", action="store_true", help="count search permission on parent directories (default)")
     parser.add_argument("--with-root", action="store_true",
                         help="also the users of uid 0, to whom the kernel grants nearly everything")
     parser.add_argument("--output", metavar="FILE", help="write the page to a new file that its owner alone may read")
@@ -82,14 +82,14 @@ def page_over(command: Command, given: argparse.Namespace, source: Source) -> Op
         listing = tree.add(list_files(session, tops), labels)
         listings = [(listing, labels)]
         if not listing.paths:
-            raise Failure(source.shown + b": has no files: make a snapshot by facl-snapshot")
+            raise Failure(source.shown + b": has no files; make a snapshot with facl snapshot")
         if given.scripts:
             from ..plan.replay import Replay  # A page of one state needs none.
 
             linked = linked_files(listing, labels, snapshot.links)
             refusals = answer_scripts(command, Replay(session, snapshot, linked), units)
             if refusals:
-                command.say(counted(refusals, "line was", "lines were") + b" refused, so no page is written")
+                command.say(b"no page was written: " + counted(refusals, "line was", "lines were") + b" refused")
                 return None
             labels = Labels()
             listings.append((tree.add(list_files(session, tops), labels), labels))
@@ -108,5 +108,5 @@ def body(command: Command, words: List[str]) -> int:
         command.write(page)
     else:
         target.write(page)
-        command.tell(target.name + b": is written")
+        command.tell(b"wrote " + target.name)
     return WRITTEN

@@ -34,7 +34,7 @@ function findingsOf(file) {
   const found = findingsByPath.get(pathOf(file, Infinity)) ?? [];
   if (!found.length) return [];
   const rows = found.map(([{name, weight, meaning}, detail, edit]) => element("li", {}, weightOf(weight), " " + name + ": " + meaning + (detail ? " (" + detail + ")" : ""),
-    ...(edit ? [element("br"), element("span", {className: "reason", textContent: "for facl-plan: " + edit})] : [])));
+    ...(edit ? [element("br"), element("span", {className: "reason", textContent: "for facl plan: " + edit})] : [])));
   return [element("h3", {textContent: "Findings"}), element("ul", {className: "found"}, ...rows)];
 }
 

@@ -3,7 +3,7 @@
 const ASKED = data.heads.length ? data.heads.at(-1).asked : 0; // The users of a directory service whom the snapshot has.
 const KINDS = {user: "Users", group: "A user who has the group alone",
   everybody: "A user without any of these groups" + (ASKED ? ", whom the snapshot does not have; it has " + counted(ASKED, "user") + " of a directory service" : ""),
-  account: "Accounts of the system, which are no people"};
+  account: "System accounts"};
 const LINES = 50; // Of a table that are shown at once.
 const side = element("section", {id: "side"});
 

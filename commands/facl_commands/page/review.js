@@ -7,7 +7,7 @@ const MOST = 1000; // names of files that can be shown,
 const LISTS = 200; // and lists, until more are asked for.
 const ROOM = 60000; // Bytes of entries and names in a line of a script, which may have 65,536;
 const KEYS_ROOM = 20000; // and of entries alone.
-const FOR_PLAN = "# for facl-plan, not for a shell"; // As in findings.py.
+const FOR_PLAN = "# for facl plan, not for a shell"; // As in findings.py.
 const filesOf = data.lists.map(() => []);
 const ticked = new Set(); // Boxes, as LIST.ENTRY.
 let shownLists = 0;

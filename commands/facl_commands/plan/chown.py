@@ -208,7 +208,7 @@ def notes(left: Left) -> List[bytes]:
     """The lines of a report."""
     return [b"%s is removed and still %s %s, first: %s" % (shown(left.name), how, counted(len(paths), "file"),
                                                            live_name(paths[0]))
-            for how, paths in ((b"owns", left.owned), (b"named in the lists of", left.named)) if paths]
+            for how, paths in ((b"owns", left.owned), (b"named in the ACLs of", left.named)) if paths]
 
 
 def comments(left: Left) -> List[bytes]:

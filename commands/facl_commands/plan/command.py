@@ -41,7 +41,7 @@ that opens it. It reads the snapshot alone, and changes nothing on the live syst
 What facl-apply needs is written to a folder, SNAPSHOT.plan:
 
   edits      the lines, as they were given
-  files      the files whose owner, group, flags or lists change, with their inodes and the bytes of both lists
+  files      the files whose owner, group, flags or ACL change, with their inodes and the bytes of both lists
   old, new   their records, as they are and as they would be, for a person and for setfacl --restore
   by_hand    what facl-apply does not do: users and memberships, files that go, files that are made; the file steps
              has it as data
@@ -58,14 +58,13 @@ written, and what is printed of it could not be.
 
 def parse(words: List[str]) -> argparse.Namespace:
     parser = parser_of("facl-plan", HELP, STATUS)
-    parser.add_argument("--plan", metavar="DIR", help="the folder of the plan, in place of SNAPSHOT.plan")
+    parser.add_argument("-o", "--plan", metavar="DIR", help="the folder of the plan, in place of SNAPSHOT.plan")
     parser.add_argument("--full", action="store_true", help="print each user and file")
     view = parser.add_mutually_exclusive_group()
     view.add_argument("--file-alone", action="store_true",
-                      help="judge each file alone, also where nobody can get to it")
-    view.add_argument("--reach", action="store_true",
-                      help="with search on the directories above each file, as without it")
-    parser.add_argument("--with-root", action="store_true", help="judge users of the id 0 by the lists too")
+                      help="judge each file alone, without search permission on its parent directories")
+    view.add_argument("--reach", action="store_true", help="count search permission on parent directories (default)")
+    parser.add_argument("--with-root", action="store_true", help="judge users of the id 0 by the ACLs too")
     parser.add_argument("--json", action="store_true",
                         help="print one JSON object; bytes that are no UTF-8 are escapes")
     parser.add_argument("--keep-going", action="store_true", help="plan the other lines where some were refused")
@@ -147,7 +146,7 @@ def warn_of_stuck(command: Command, stuck: Dict[bytes, bytes], changes: ChangedP
     """Of files that nobody can change, make or remove, each with why."""
     known = set(changes.changed)
     changed, others = ([path for path in stuck if (path in known) is is_changed] for is_changed in (True, False))
-    for text, paths in ((b"files that nobody can change, so facl-apply will change none", changed),
+    for text, paths in ((b"files that nobody can change, so facl apply will change none", changed),
                         (b"files that nobody can make or remove, so by_hand will not", others)):
         if paths:
             command.say(overview.warning_of(text, list(map(outcome.name_of, paths))) + b", since " + stuck[paths[0]])
@@ -168,11 +167,11 @@ def say_refused(command: Command, outcome: Outcome, keep_going: bool) -> bool:
     """Whether lines were refused, so that there is no plan."""
     count = len(outcome.refusals())
     if any(message.is_final for message in outcome.messages):
-        command.say(b"nothing is written: edit one of those names alone, since the others are the same file")
+        command.say(b"nothing was written: edit one of those names alone, since the others are the same file")
         return True
     if count and not keep_going:
-        command.say(counted(count, "line was", "lines were") + b" refused, so nothing is written: mend "
-                    + (b"it" if count == 1 else b"them") + b", or plan the other lines by --keep-going")
+        command.say(b"nothing was written: " + counted(count, "line was", "lines were") + b" refused; mend "
+                    + (b"it" if count == 1 else b"them") + b", or plan the other lines with --keep-going")
     return count > 0 and not keep_going
 
 
@@ -193,7 +192,7 @@ def say_unknown(command: Command, source: sources.Source) -> bool:
     found = sources.notice(source.folder, read.dump)
     is_whole = found is None or RELATIVE_NAME.search(read.dump) is None
     if found is not None:
-        rest = b"; names do not start at the root of the file system, so no plan is written for facl-apply"
+        rest = b"; names do not start at the root of the file system, so no plan is written"
         command.say(source.shown + b": " + found + rest * (not is_whole))
         for warning in overview.names_without_row(source.folder, read.dump):
             command.say(warning)
@@ -240,7 +239,7 @@ def check_inodes(snapshot: Snapshot, changes: ChangedPaths) -> None:
     lacking = [path for path in changes.changed if path not in snapshot.inodes] if snapshot.inodes else []
     if lacking:
         raise Failure(snapshot.folder + b"/inodes: has no " + live_path(lacking[0])
-                      + b", so it is not as facl-snapshot wrote it: make the snapshot again")
+                      + b", so it is not what facl snapshot wrote: make the snapshot again")
 
 
 def body(command: Command, words: List[str]) -> int:
@@ -276,7 +275,7 @@ def plan_over(command: Command, given: argparse.Namespace, source: sources.Sourc
         files = plan_files(find_program(given), snapshot, scripts, outcome, changes)
         kept = plan_folder.write_plan(target, files, group)
         if kept is not None:
-            command.say(b"the plan that was there is " + kept + b" now")
+            command.say(b"kept the earlier plan as " + kept)
     if given.json:
         for part in json_report(given, outcome, changes, commands, written, stuck):
             command.write(part)
@@ -286,5 +285,5 @@ def plan_over(command: Command, given: argparse.Namespace, source: sources.Sourc
         for part in text_report(given, outcome, changes, commands, written):
             command.write(part)
     if not has_work and not outcome.refusals():
-        command.say(b"nothing to do: no line changes a list, an owner, a flag, a file or a user")
+        command.say(b"nothing to do: no line changes an ACL, an owner, a flag, a file or a user")
     return REFUSED if outcome.refusals() else SOMETHING if has_work else NOTHING

@@ -46,8 +46,8 @@ class NoGain(NamedTuple):
         verb = b" grant" if self.opened > 1 else b" grants"
         rest = b", and " + below(self.closed) + (b" grants none" if self.closed == 1
                                                  else b" grant none") if self.closed else b""
-        return which + verb + b" no search (" + b", ".join(map(shown_entry,
-                                                               self.entries)) + b")" + rest + b"; add for facl-plan: " + self.edit
+        entries = b", ".join(map(shown_entry, self.entries))
+        return which + verb + b" no search permission (" + entries + b")" + rest + b"; add to the edits: " + self.edit
 
 
 def below(number: int) -> bytes:

@@ -17,7 +17,7 @@ from ..program.session import session_over
 
 ATTRIBUTES = re.compile(ATTRIBUTE_LINES)
 PORTION = 10_000  # Questions that are sent at once.
-OTHER_BYTES = (b"the bytes of a list are not those of its entries, so nothing is written: somebody else can have changed what "
+OTHER_BYTES = (b"nothing was written: the bytes of an ACL are not those of its entries: somebody else can have changed what "
                b"the program was given, or the program is of another version")
 
 

@@ -91,7 +91,7 @@ class Replay:
             names = self.links.follow(self.session, unit)
             if names:
                 shown = b", ".join(map(live_path, names))
-                self.messages.append(Message(unit, b"names of one file get different lists: " + shown, is_final=True))
+                self.messages.append(Message(unit, b"names of one file get different ACLs: " + shown, is_final=True))
 
 
 def list_below(session: Session, tops: List[bytes]) -> Listing:

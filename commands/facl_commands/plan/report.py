@@ -107,7 +107,7 @@ def short_lines(outcome: Outcome, changes: List[Gain]) -> Iterator[bytes]:
 
 
 def summary(changes: ChangedPaths, commands: List[bytes], outcome: Outcome) -> bytes:
-    parts = [counted(len(changes.changed), "file changes", "files change") + b" owner, group, flags or lists"]
+    parts = [counted(len(changes.changed), "file changes", "files change") + b" owner, group, flags or ACL"]
     if not outcome.is_whole and (changes.made or changes.removed):
         parts.append(counted(len(changes.made), "file is", "files are") + b" made, %d removed" % len(changes.removed))
     if commands:
@@ -115,16 +115,15 @@ def summary(changes: ChangedPaths, commands: List[bytes], outcome: Outcome) -> b
     if not outcome.kinds.kinds:
         parts.append(b"nobody may do anything else than before")
     if outcome.kinds.left_out:
-        verb = b" is" if len(outcome.kinds.left_out) == 1 else b" are"
-        parts.append(b" and ".join(sorted(outcome.kinds.left_out)) + verb
-                     + b" left out, whom the kernel grants nearly everything (--with-root)")
+        names = b" and ".join(sorted(outcome.kinds.left_out))
+        parts.append(names + b" not shown, to whom Linux grants nearly everything; --with-root shows " + names)
     return shown(b"; ".join(parts)) + b"\n"
 
 
 def next_step(plan: bytes, changes: ChangedPaths) -> bytes:
     """The command that a person runs when the plan is read. facl-apply says what is still to be done by hand."""
     name = b"./" * plan.startswith(b"-") + plan
-    return b"facl-apply " + shell_word(name) if changes.changed else b"sh " + shell_word(name + b"/by_hand")
+    return b"facl apply " + shell_word(name) if changes.changed else b"sh " + shell_word(name + b"/by_hand")
 
 
 def text_report(given: argparse.Namespace, outcome: Outcome, changes: ChangedPaths, commands: List[bytes],
@@ -136,7 +135,7 @@ def text_report(given: argparse.Namespace, outcome: Outcome, changes: ChangedPat
         yield from (line + b"\n" for line in beside(outcome.about))
     yield summary(changes, commands, outcome)
     if target is not None:
-        yield shown(target + b": is written; next: " + next_step(target, changes)) + b"\n"
+        yield shown(b"wrote " + target + b"; next: " + next_step(target, changes)) + b"\n"
     for command in commands:
         yield shown(b"by hand: " + command) + b"\n"
     for left in outcome.left:

@@ -46,7 +46,7 @@ class Doing(Notes):
             os.close(new_file.create(DONE_BY_HAND, folder.descriptor))
         mark = trusted.open_mark(folder.descriptor, folder.name, DONE_BY_HAND)
         if trusted.has_list(mark):
-            raise trusted.mark_failure(folder.name, DONE_BY_HAND, b"has an access control list")
+            raise trusted.mark_failure(folder.name, DONE_BY_HAND, b"has an ACL")
         text = folder.read(DONE_BY_HAND)
         super().__init__(text)
         self.file = os.open(b"/proc/self/fd/%d" % mark, os.O_WRONLY | os.O_APPEND | os.O_CLOEXEC)

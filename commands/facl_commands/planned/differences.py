@@ -10,7 +10,7 @@ from typing import Callable, Iterator, List
 from ..base import acl_bytes
 from ..base.acl_bytes import Key, Record
 
-PARTS = (b"owner", b"group", b"flags", b"access list", b"default list")
+PARTS = (b"owner", b"group", b"flags", b"access ACL", b"default ACL")
 TAGS = {
     acl_bytes.USER_OBJ: b"user", acl_bytes.USER: b"user", acl_bytes.GROUP_OBJ: b"group", acl_bytes.GROUP: b"group", acl_bytes.MASK: b"mask",
     acl_bytes.OTHER: b"other",

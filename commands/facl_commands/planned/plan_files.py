@@ -84,12 +84,12 @@ def as_written(name: bytes, by_whom: bytes) -> Iterator[None]:
     try:
         yield
     except (ValueError, KeyError, TypeError, IndexError, AttributeError, RecursionError, OverflowError, MemoryError) as error:
-        raise Failure(name + b": is not as " + by_whom) from error
+        raise Failure(name + b": is not what " + by_whom) from error
 
 
 def read_work(name: bytes, text: bytes) -> Work:
     """What work_text wrote; each path once, in path order."""
-    with as_written(name, b"facl-plan wrote it: make the plan again"):
+    with as_written(name, b"facl plan wrote; make the plan again"):
         fields = json.loads(text)
         boot, rows = fields["boot"], fields["files"]
         records = [read_record(row) for row in fields["records"]]
@@ -121,7 +121,7 @@ def journal_text(boot: str, files: Dict[bytes, Identity]) -> bytes:
 
 
 def read_journal(name: bytes, text: bytes) -> Journal:
-    with as_written(name, b"facl-apply wrote it"):
+    with as_written(name, b"facl apply wrote"):
         fields = json.loads(text)
         files = {path.encode("latin-1"): identity_of(identity) for path, *identity in fields["files"]}
         return Journal(str(fields["boot"]), files)

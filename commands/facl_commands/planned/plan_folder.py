@@ -56,7 +56,7 @@ class PlanFolder(NamedTuple):
             return b""
         found = self.read(b"state")
         if found not in STATES:
-            raise Failure(self.name + b"/state: is not as facl-apply wrote it, so it is not known what was done: compare the files "
+            raise Failure(self.name + b"/state: is not what facl apply wrote, so it is not known what was done: compare the files "
                           b"with old and new of the plan, and make another plan")
         return found
 
@@ -90,7 +90,7 @@ class PlanFolder(NamedTuple):
         try:
             fcntl.flock(descriptor, fcntl.LOCK_EX | fcntl.LOCK_NB)
         except BlockingIOError as error:
-            raise Failure(self.name + b": another facl-plan, facl-apply or by_hand is at work on it") from error
+            raise Failure(self.name + b": another facl plan, apply, undo or by_hand is at work on it") from error
 
     def is_of(self, place: "Place") -> bool:
         """Whether a name leads to this folder."""
@@ -121,7 +121,7 @@ class Place(NamedTuple):
         folder = PlanFolder(descriptor, self.shown)
         folder.lock()
         if not folder.is_of(self):
-            raise Failure(self.shown + b": was replaced at this moment: run the command again")
+            raise Failure(self.shown + b": somebody replaced it at this moment; run the command again")
         return folder
 
     def has(self) -> bool:
@@ -138,9 +138,9 @@ def place_of(name: bytes) -> Place:
     """The place of a name; the folder that it is in has to be there, and to be trusted."""
     above, last = os.path.split(os.path.abspath(name))
     if not last or not name:
-        raise Failure(name + b": is no name of a plan")
+        raise Failure(name + b": cannot be the name of a plan")
     if not os.path.isdir(above):
-        raise Failure(name + b": the folder that it is to be in is not there")
+        raise Failure(name + b": its parent directory does not exist")
     return Place(trusted.open_folder(above), last, name)
 
 
@@ -150,14 +150,14 @@ def place_of(name: bytes) -> Place:
 def open_plan(name: bytes) -> PlanFolder:
     """Opens and locks a plan."""
     if not os.path.isdir(name):
-        raise Failure(os.path.abspath(name) + b": is no plan: make one by facl-plan")
+        raise Failure(os.path.abspath(name) + b": is not a plan; make one with facl plan")
     os.close(trusted.open_folder(name))
     place = place_of(os.path.realpath(name))
     folder = place.open()._replace(name=os.path.abspath(name))
     if not folder.has(b"plan"):
-        raise Failure(folder.name + b": is no plan: make one by facl-plan")
+        raise Failure(folder.name + b": is not a plan; make one with facl plan")
     if folder.read(b"plan") != VERSION:
-        raise Failure(folder.name + b": is a plan of another version: make it again by facl-plan")
+        raise Failure(folder.name + b": is a plan of another version of facl; make it again with facl plan")
     return folder
 
 
@@ -183,10 +183,10 @@ def open_target(name: bytes) -> Target:
         return Target(place, None)
     status = os.stat(place.name, dir_fd=place.above, follow_symlinks=False)
     if not stat.S_ISDIR(status.st_mode):
-        raise Failure(name + b": is there, and is no plan: give another name by --plan")
+        raise Failure(name + b" exists and is not a plan; choose another name with -o")
     old = place.open()
     if old.others() is not None:
-        raise Failure(name + b": is there, and is no plan, or has other files too: give another name by --plan")
+        raise Failure(name + b" exists and is not a plan alone (it has other files); choose another name with -o")
     return Target(place, old)
 
 
@@ -261,7 +261,7 @@ def put_in_place(target: Target, made: bytes) -> None:
     if old is None:
         linux.rename_new(made, place.name, place.above)
     elif not old.is_of(place):
-        raise Failure(place.shown + b": was replaced meanwhile, so nothing is written: run facl-plan again")
+        raise Failure(place.shown + b": somebody replaced it meanwhile; nothing was written; run facl plan again")
     else:
         linux.exchange(made, place.name, place.above)
 

@@ -152,7 +152,7 @@ def read_steps(name: bytes, text: bytes) -> Steps:
     """What text_of made; none of an empty text."""
     if not text:
         return NO_STEPS
-    with as_written(name, b"facl-plan wrote it: make the plan again"):
+    with as_written(name, b"facl plan wrote; make the plan again"):
         fields = json.loads(text)
         identities = {path.encode("latin-1"): identity_of(its) for path, *its in fields["identities"]}
         people = [PeopleStep(number, read_change(row[:6]), *map(number_of, row[6:]))
@@ -175,5 +175,5 @@ def chosen(folder: PlanFolder, name: bytes, lines: Dict[bytes, int]) -> Set[int]
     found = {line for line in text.split(b"\n") if line and not line.startswith((b"#", b"exec "))}
     others = sorted(found - lines.keys())
     if others:
-        raise Failure(folder.name + b"/" + name + b": has a line that facl-plan did not write, which can only be put after a #: " + others[0])
+        raise Failure(folder.name + b"/" + name + b": has a line that facl plan did not write; put a # before it: " + others[0])
     return {lines[line] for line in found}

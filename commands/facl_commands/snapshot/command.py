@@ -66,7 +66,7 @@ def tell(command: Command, taking: Taking, given: bytes) -> bool:
     """Says what is made; whether that could be written, whatever became of the messages before."""
     command.fault = None
     left_out = taking.left_out
-    command.tell(given + b": " + taking.report() + b"; symbolic links left out: %d" % left_out.numbers[LINK])
+    command.tell(b"recorded " + given + b": " + taking.report() + b"; symbolic links left out: %d" % left_out.numbers[LINK])
     for why, text in ((OTHER_SYSTEM, b"as other file systems"), (EXCLUDED, b"by --exclude")):
         if left_out.numbers[why]:
             command.tell(given + b": left out " + text + b": %d, first: " % left_out.numbers[why] + left_out.first[why])
@@ -92,7 +92,7 @@ def body(command: Command, words: List[str]) -> int:
         new.put_in_place(readers)
     status = 1 if taking.lacks else 0
     if not read.is_quiet and not tell(command, taking, read.target):
-        command.say(read.target + b": is made, but the line that says so could not be written")
+        command.say(read.target + b": was made, but the line that says so could not be written")
         status = status or NOT_SAID
     command.fault = None  # Of messages.
     return status

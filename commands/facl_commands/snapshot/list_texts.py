@@ -88,14 +88,14 @@ def entries_of(data: bytes) -> Tuple[acl_bytes.Entries, bool]:
     found: acl_bytes.Entries = {}
     try:
         if data[:4] != HEAD:
-            raise NoList(b"has a list that is none")
+            raise NoList(b"has an ACL that is not valid")
         for tag, bits, number in ENTRY.iter_unpack(data[4:]):
             key = tag, number if tag in NAMED else NO_ID
             found[key] = found.get(key, 0) | bits if tag == GROUP else found.get(key, bits)
     except struct.error as error:
-        raise NoList(b"has a list that is none") from error
+        raise NoList(b"has an ACL that is not valid") from error
     if len(found) > MOST_ENTRIES:
-        raise NoList(b"has a list of more than %d entries, which facl does not take" % MOST_ENTRIES)
+        raise NoList(b"has an ACL of more than %d entries, which facl does not take" % MOST_ENTRIES)
     return found, len(found) != (len(data) - len(HEAD)) // ENTRY.size
 
 

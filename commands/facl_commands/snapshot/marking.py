@@ -19,14 +19,14 @@ LISTS = {"system.nfs4_acl": BITS[beside.NFS4_LIST], "system.nfs4_acl_xdr": BITS[
          "system.richacl": BITS[beside.RICH_LIST], "security.NTACL": BITS[beside.SAMBA_LIST]}
 # What is said of a snapshot that has files of a kind.
 SAID = {
-    beside.IMMUTABLE: b"immutable files, which nobody can write whatever lists say (see marks)",
+    beside.IMMUTABLE: b"immutable files, which nobody can write whatever their ACLs say (see marks)",
     beside.APPEND_ONLY: b"append-only files, of which nobody can change what they have (see marks)",
-    beside.READ_ONLY: b"files on read-only file systems, which nobody can write whatever lists say (see marks)",
+    beside.READ_ONLY: b"files on read-only file systems, which nobody can write whatever their ACLs say (see marks)",
     beside.NOEXEC: b"files on noexec file systems, which nobody can run (see marks)",
     beside.ATTRIBUTES_UNKNOWN: b"files whose file systems do not say whether they are immutable",
-    beside.NFS4_LIST: b"files with an NFSv4 list (system.nfs4_acl), which facl does not judge",
-    beside.RICH_LIST: b"files with a rich list (system.richacl), which facl does not judge",
-    beside.SAMBA_LIST: b"files with a list of Samba (security.NTACL), by which Samba judges too, and facl does not",
+    beside.NFS4_LIST: b"files with an NFSv4 ACL (system.nfs4_acl), which facl does not judge",
+    beside.RICH_LIST: b"files with a rich ACL (system.richacl), which facl does not judge",
+    beside.SAMBA_LIST: b"files with an ACL of Samba (security.NTACL), which Samba checks too, and facl does not",
 }
 # File systems that list the attributes of lists, where a file has them: ext4, xfs, btrfs, tmpfs. Others may have lists all the same.
 LISTING = (0xEF53, 0x58465342, 0x9123683E, TMPFS)

@@ -61,7 +61,7 @@ class PeopleOfSystem:
         message has its lines."""
         with failing(name + b": cannot be read"), open(name, "rb") as file:
             lines = trusted.read_all(file, name, trusted.MOST_WRITTEN).split(b"\n")
-        fail_of_line(name, lines, lambda line: len(line) > LONGEST_USER or b":" in line, b"is no name of a user")
+        fail_of_line(name, lines, lambda line: len(line) > LONGEST_USER or b":" in line, b"cannot be the name of a user")
         self.users.ask({*lines} - {b""})
         if self.service.unasked:
             raise Failure(name + b": asking for its users took more than %d seconds" % asking.MOST_SECONDS)

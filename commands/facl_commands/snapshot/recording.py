@@ -91,7 +91,7 @@ class Recording:
         found = [
             (b"names of files that have another name in the snapshot too (see links)", sum(map(len, linked.sets)), linked.first),
             (b"files with more than one link whose other names are not in the snapshot", linked.outside, linked.first_outside),
-            (b"lists with several entries of one user or group, which are recorded as one, as Linux judges by them",
+            (b"ACLs with several entries of one user or group, which are recorded as one, as Linux judges by them",
              sums.numbers[REPEATED], sums.first.get(REPEATED, b"")),
             *((text, sums.numbers[BITS[kind]], sums.first.get(BITS[kind], b"")) for kind, text in SAID.items())]
         return [(text, number, shown_name(first)) for text, number, first in found]
@@ -195,7 +195,7 @@ def record(found: Iterable[Walked], made: int, count: Optional[int], left_out: L
             whole.add(walked.run)
             if whole.dump.size > MOST_BYTES:
                 raise Failure(b"the dump has more than %s bytes, which facl does not take: name fewer FOLDERs, or take several "
-                              b"snapshots by --split COUNT" % format(MOST_BYTES, ",").encode())
+                              b"snapshots with --split COUNT" % format(MOST_BYTES, ",").encode())
         whole.finish()
         return [whole]
     parts = Parts(made, count)

@@ -44,6 +44,6 @@ def of_folder(path: bytes) -> bytes:
 
 
 def too_many(most: int) -> Failure:
-    hint = b"name fewer FOLDERs" + b", or take several snapshots by --split COUNT" * (most == MOST_FILES)
+    hint = b"name fewer FOLDERs" + b", or take several snapshots with --split COUNT" * (most == MOST_FILES)
     return Failure(b"more than " + format(most, ",").encode() + b" names were found: " + hint
                    + b"; somebody who renames folders meanwhile can be the cause")

@@ -95,13 +95,15 @@ class Taking:
 
     def warn_of_all(self, part: Recording) -> None:
         """Of a part; of users and groups with the first one."""
-        self.warn(b"files or folders that could not be read, so that the dump lacks them or what is in them", part.unread,
-                  part.first_unread, True)
+        if part.unread:
+            self.command.say(b"warning: %s could not be read and %s missing from the snapshot, first: %s" % (
+                counted(part.unread, "file"), b"is" if part.unread == 1 else b"are", part.first_unread))
         for warned in [*part.said(), strangers(self.people, part.sums)]:
             self.warn(*warned)
         if part.sums.has_too_many_ids:
             self.lacks = True
-            self.command.say(b"files and lists have more than %d ids of users, or of groups, so the snapshot may lack some" % MOST_IDS)
+            self.command.say(b"files and ACLs have more than %d ids of users, or of groups, so the snapshot may lack some"
+                             % MOST_IDS)
         why = why_incomplete(self.people, part.sums)
         if why and not self.has_said_why:
             self.command.say(why + SERVICES)

@@ -45,7 +45,7 @@ def check_doubt(place: bytes, look: os.stat_result, doubt: Optional[int]) -> Non
         raise Failure(place + b": " + {
             trusted.OF_OTHER: b"belongs to " + trusted.owner_name(look.st_uid) + b", who could write there or exchange it",
             trusted.BY_ALL: b"everybody can write there",
-            trusted.BY_OTHERS: b"others than its owner can write there, by its group or its list"}[doubt])
+            trusted.BY_OTHERS: b"others than its owner can write there, by its group or its ACL"}[doubt])
 
 
 class SnapshotPlace(NamedTuple):
@@ -73,12 +73,12 @@ def place_of(given: bytes) -> SnapshotPlace:
             if way.missing is not None:
                 return SnapshotPlace(given, os.path.join(way.place(), way.missing), opened(way.open[-1]), way.missing, None)
             if not stat.S_ISDIR(os.fstat(way.open[-1]).st_mode):
-                raise Failure(given + b": is there, and is no folder")
+                raise Failure(given + b" exists and is not a folder")
             old = opened(way.open[-1])
             check_replaced(given, way.place(), old)
             return SnapshotPlace(given, way.place(), opened(way.open[max(0, len(way.open) - 2)]), way.shown[-1], old)
         except (FileNotFoundError, NotADirectoryError) as error:
-            raise Failure(given + b": the folder that it is to be in is not there") from error
+            raise Failure(given + b": its parent directory does not exist") from error
         except OSError as error:
             text = b"has too many symbolic links" if error.errno == errno.ELOOP else b"cannot be looked at"
             raise Failure(given + b": " + text) from error
@@ -91,9 +91,9 @@ def check_replaced(given: bytes, path: bytes, old: int) -> None:
     looks = looks_in(old)
     other = other_file(looks)
     if other is not None:
-        raise Failure(given + b": is there, and is no snapshot of yours, or has other files too: " + other)
+        raise Failure(given + b" exists and is not a snapshot of yours, or has other files: " + other)
     if len(looks) > 1 and b"001/dump" not in looks and not {*looks} >= {b"passwd", b"group", b"dump"}:
-        raise Failure(given + b": is there, and is no snapshot")
+        raise Failure(given + b" exists and is not a snapshot")
 
 
 def looks_in(folder: int, part: bytes = b"") -> Looks:
@@ -177,7 +177,7 @@ class NewSnapshot:
 
     def put_in_place(self, group: Optional[int]) -> None:
         """By one rename, and one before it where a snapshot is replaced; no signal comes between them, nor after them."""
-        with failing(b"cannot give the new snapshot its owner, group and list"):
+        with failing(b"cannot give the new snapshot its owner, group and ACL"):
             self.share(group)
         for number in SIGNALS:
             signal.signal(number, signal.SIG_IGN)

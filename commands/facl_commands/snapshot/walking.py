@@ -98,7 +98,7 @@ def sorted_names(folder: bytes) -> Tuple[bytes, int]:
             number += len(names)
             parts.append(b"\0".join(names))
             if number > scopes.MOST_NAMES or sum(map(len, parts)) > MOST_BYTES:
-                raise Failure(os.readlink(folder) + b": more names are in it than can be recorded: leave it out by --exclude")
+                raise Failure(os.readlink(folder) + b": more names are in it than can be recorded: leave it out with --exclude")
     return parts[0] if len(parts) == 1 else b"\0".join(merged(parts)), number
 
 
@@ -222,7 +222,7 @@ class Walker:
         return None
 
     def look(self, level: Level, names: List[bytes]) -> Tuple[int, Optional[Level]]:
-        """Looks at some names of a directory, at most at one that is no plain file; how many these are, and the directory of that
+        """Looks at some names of a directory, at most at one that is not a regular file; how many these are, and the directory of that
         name if there are names in it."""
         number = self.record_plain(level, level.common, names) if level.common is not None else 0
         if number == len(names) or self.draft.size >= MOST_TEXT:

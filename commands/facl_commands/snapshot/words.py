@@ -100,7 +100,7 @@ def fault_of(option: str, value: str) -> str:
     if option == "--exclude" and value == "/":
         return " /: leaves out all"
     if option == "--split" and not MOST_IN_PART.fullmatch(value):
-        return f" {value}: is no number from 1 to 9999999"
+        return f" {value}: is not a number from 1 to 9999999"
     return ""
 
 

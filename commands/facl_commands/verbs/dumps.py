@@ -30,5 +30,5 @@ def body(command: Command, given: argparse.Namespace) -> int:
     if notice is not None:
         command.say(source.shown + b": " + notice)
     name = os.path.basename(target) if given.in_store else target
-    command.tell(source.shown + b": imported; to use it: -s " + shell_word(name))
+    command.tell(b"imported " + source.shown + b"; to use it: -s " + shell_word(name))
     return 0

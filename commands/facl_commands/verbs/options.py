@@ -43,7 +43,7 @@ def number_up_to(most: int, least: int = 0) -> Check:
     """Reads a decimal number within limits."""
     def read(word: str) -> str:
         if not (word.isascii() and word.isdigit() and least <= int(word[:20]) <= most):
-            raise argparse.ArgumentTypeError("%r is no number from %d to %d" % (word, least, most))
+            raise argparse.ArgumentTypeError("%r is not a number from %d to %d" % (word, least, most))
         return word
     return read
 
@@ -51,7 +51,7 @@ def number_up_to(most: int, least: int = 0) -> Check:
 def umask(word: str) -> str:
     """Reads a mask of octal digits."""
     if not 1 <= len(word) <= 4 or set(word) - set("01234567") or int(word, 8) > 0o777:
-        raise argparse.ArgumentTypeError("%r is no mask of octal digits up to 0777" % word)
+        raise argparse.ArgumentTypeError("%r is not a mask of octal digits up to 0777" % word)
     return word
 
 

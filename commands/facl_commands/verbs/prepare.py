@@ -20,7 +20,7 @@ def choose(command: Command, given: argparse.Namespace) -> None:
     given.stored = store.chosen(given.snapshot)
     if given.stored.parts and not given.takes_parts:
         first = given.stored.parts[0]
-        raise Failure(given.stored.name + b": is in parts, of which %s takes one: -s " % command.name + first)
+        raise Failure(given.stored.name + b": has several parts; %s takes one: -s " % command.name + first)
     store.check_paths(given.stored, [*map(os.fsencode, given.paths)])
     given.folder = os.fsdecode(given.stored.folder)
     for note in () if given.quiet else store.notes(given.stored):
@@ -54,7 +54,7 @@ def two(command: Command, given: argparse.Namespace) -> None:
 def plan(command: Command, given: argparse.Namespace) -> None:
     """Takes lines of edits in the place of a file, and names the plan by the edits."""
     if bool(given.edit) == bool(given.scripts):
-        raise Failure(b"give a file of edits, or lines by -e LINE")
+        raise Failure(b"give a file of edits, or lines with -e LINE")
     choose(command, given)
     if given.edit:
         with scratch.new_file("facl-edits.") as file:

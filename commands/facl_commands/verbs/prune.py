@@ -32,12 +32,12 @@ def kept_by(rule: str, count: int, group: List[Stored]) -> Iterator[Tuple[Stored
 
 def reasons_of(stored: List[Stored], counts: Dict[str, int]) -> Dict[bytes, List[bytes]]:
     """Why each snapshot stays; none where it goes. Snapshots of one host and the same folders are one group; what is
-    imported or no whole snapshot stays."""
+    imported or incomplete stays."""
     found: Dict[bytes, List[bytes]] = {it.name: [] for it in stored}
     groups: Dict[Tuple[bytes, ...], List[Stored]] = {}
     for it in reversed(stored):
         if it.fault or it.about is meta.UNKNOWN or it.taken() is None:
-            found[it.name].append(b"no whole snapshot" if it.fault else b"imported")
+            found[it.name].append(b"incomplete snapshot" if it.fault else b"imported")
         else:
             groups.setdefault((it.about.host, *it.about.folders), []).append(it)
     for group in groups.values():

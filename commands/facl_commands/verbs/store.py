@@ -1,8 +1,7 @@
 """The store of snapshots: /var/lib/facl, of another user than root a folder of the user's own. A snapshot is named by
 its time, and the newest one of this host is meant where a person names none.
 
-Nobody else than root and the caller may be able to write there. A folder in it that is no whole snapshot is never
-chosen.
+Nobody else than root and the caller may be able to write there. An incomplete snapshot is never chosen.
 """
 from __future__ import annotations
 
@@ -34,7 +33,7 @@ class Stored(NamedTuple):
     folder: bytes
     about: meta.Meta
     parts: List[bytes]  # The folders of its parts; none where it has none.
-    fault: bytes  # Why it is no whole snapshot; empty where it is one.
+    fault: bytes  # Why it is incomplete; empty where it is whole.
 
     def is_of_this_host(self) -> bool:
         return self.about is not meta.UNKNOWN and not meta.is_of_another_host(self.about)
@@ -109,7 +108,7 @@ def made_place() -> bytes:
     os.close(descriptor)
     if look.st_uid != os.geteuid() or look.st_mode & 0o022:
         raise Failure(name + b": has to belong to you, and nobody else may write there: chmod 700 it, or name another "
-                      b"store by $" + STORE)
+                      b"store with $" + STORE)
     return name
 
 
@@ -149,10 +148,10 @@ def read_snapshot_folder(name: bytes, path: bytes) -> Optional[Stored]:
 
 
 def fault_of(folder: folders.Folder) -> bytes:
-    """Why a folder is no whole snapshot; empty where it is one."""
+    """Why a snapshot is incomplete; empty where it is not."""
     lacking = [it for it in folders.TEXTS if not folder.has(it)]
     if lacking:
-        return b"no whole snapshot: it lacks " + b", ".join(lacking)
+        return b"incomplete snapshot: it lacks " + b", ".join(lacking)
     return next(iter(folder.faults.values()), b"")
 
 
@@ -204,7 +203,7 @@ def newest() -> Stored:
         return found[-1]
     others = [it for it in stored if not it.fault]
     if others:
-        raise Failure(place() + b": has no snapshot of this host; name one by -s: " + few(others))
+        raise Failure(place() + b": has no snapshot of this host; name one with -s: " + few(others))
     by_whom = b", as root" * (place() == OF_ROOT)
     raise Failure(place() + b": has no snapshot; make one%s: facl snapshot FOLDER" % by_whom)
 

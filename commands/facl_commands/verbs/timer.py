@@ -47,7 +47,7 @@ def body(command: Command, given: argparse.Namespace) -> int:
     if systemctl is None or not any(os.path.exists(os.path.join(folder, TIMER)) for folder in UNITS):
         raise Failure(b"there is no facl-daily.timer, which the Debian package has; let cron run facl daily instead")
     if write_settings(settings_of(given)):
-        command.say(b"the settings that were there are " + SETTINGS + KEPT + b" now")
+        command.say(b"kept the earlier settings as " + SETTINGS + KEPT)
     done = subprocess.run([systemctl, "enable", "--now", TIMER], stdin=subprocess.DEVNULL, stdout=subprocess.DEVNULL,
                           env=environment_of_called(), check=False)
     if done.returncode != 0:

@@ -30,7 +30,7 @@ MOST_READ = 16_777_216  # Bytes of another machine's answers that are read into 
 MOST_WRITTEN = 1 << 32  # Bytes that it may write into one file, where there is room.
 MOST_SAID = 10_000  # Bytes of its messages in which the first one is looked for.
 CUT = b"a snapshot did not answer to the end"
-NOT_READABLE = b"an answer cannot be read; facl-ask may be of another version there"
+NOT_READABLE = b"an answer cannot be read; facl may be of another version there"
 
 
 class Server(NamedTuple):

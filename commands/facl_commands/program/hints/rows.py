@@ -58,7 +58,7 @@ ROWS: List[HintRow] = [
     row(by(PROGRAM, OPEN_QUOTE), b"", "A single quote starts a quote that goes on to the next one. In a name it is written "
         "\\047", None, "who r srv/share/it's", "who r srv/share/it\\047s"),
     # First words that are no tools.
-    row(by(PROGRAM, UNKNOWN_TOOL), first("chown chgrp"), "facl-plan takes this line in its scripts. Here an owner and a group "
+    row(by(PROGRAM, UNKNOWN_TOOL), first("chown chgrp"), "facl plan takes this line in its scripts. Here an owner and a group "
         "are set by a record of setfacl --restore=- alone.", None, "chown ines FILE"),
     row(UNKNOWN, rb"^(?:sudo|doas) +(?=[a-z])", "Lines act as the administrator already. Leave the word out:", b"",
         "sudo chmod 600 FILE", "chmod 600 FILE"),
@@ -87,14 +87,14 @@ ROWS: List[HintRow] = [
     row(UNKNOWN, first("cd pwd help ? quit exit man echo printf for while if do done then else fi case set export bash sh python3 "
                        "perl awk sed grep cut sort uniq xargs time env facl-ask facl-plan facl-apply facl-report facl-snapshot"),
         "No shell reads the line: each is a tool of facl with its words, and paths start at the root. Loops, filters and "
-        "commands are around facl-ask; help and quit are words of its prompt.", None, "for u in ines ben; do can $u FILE; done"),
+        "commands are around facl ask; help and quit are words of its prompt.", None, "for u in ines ben; do can $u FILE; done"),
     # What a shell would read.
     row(USE + b"|" + ENTRY + rb'|.*(?:"|\\134).*', rb'"([^"' + rb"']*)" + rb'"|\\( )', "Neither a double quote nor a backslash quotes. A word with "
         "a blank is in single quotes.", rb"'\1\2'", 'who r "srv/share/plan 2 "', "who r 'srv/share/plan 2 '"),
     row(WORDS, rb" ?(?:;|&&|\|\|) ?OUTSIDE", "A line is one command: no ;, &&, || or & ends it. Each has a line of its own.",
         b"\n", "setfacl -x u:mara srv/share/notes; changes", "setfacl -x u:mara srv/share/notes\nchanges"),
     row(WORDS, rb" ?(?:\d?[<>]|\||&$)OUTSIDE.*", "No shell reads the line, so |, < and > are words like any other. What facl-ask "
-        "prints goes to a command or a file: facl-ask SNAPSHOT SCRIPT | wc -l", b"", "may ines r | wc -l", "may ines r"),
+        "prints goes to a command or a file: facl ask SCRIPT | wc -l", b"", "may ines r | wc -l", "may ines r"),
     row(WORDS, rb"\$[A-Za-z_({]OUTSIDE|`OUTSIDE", "No shell reads the line: variables and commands in it are not expanded.", None,
         "can $USER FILE", "can ines FILE"),
     row(USE + b"|" + by(ANY_TOOL, b"#.*"), rb" #.*", "A # after other words is a word. A comment has a line of its own.", b"",

@@ -155,6 +155,6 @@ def body(command: Command, words: List[str]) -> int:
         write(command, given, report)
     if target is not None and page is not None:
         target.write(page)
-        command.say(target.name + b": is written")
+        command.say(b"wrote " + target.name)
     failing = [] if given.fail_on == NONE else WEIGHTS[: WEIGHTS.index(given.fail_on) + 1]
     return int(any(kind.weight in failing for kind in report.kinds()))

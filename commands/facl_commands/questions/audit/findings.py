@@ -17,7 +17,7 @@ from ...program.session import parts_of
 HIGH, MIDDLE, LOW = "high", "middle", "low"
 WEIGHTS = (HIGH, MIDDLE, LOW)
 # A comment of a script. In a shell, chmod and setfacl follow the links that somebody puts in the place of a file.
-FOR_PLAN = b"# for facl-plan, not for a shell"
+FOR_PLAN = b"# for facl plan, not for a shell"
 FIELDS = 3  # Of a line that accepts: the finding, the path, and the first word of the reason.
 FORM = b"a line is FINDING PATH REASON; words with spaces are in single quotes"
 
@@ -29,9 +29,9 @@ class KindOfFinding(NamedTuple):
 
 
 KINDS = (
-    KindOfFinding("writable-by-everybody", HIGH, "everybody else, whom no list names, can write it along its path"),
+    KindOfFinding("writable-by-everybody", HIGH, "everybody else, whom no ACL names, can write it along its path"),
     KindOfFinding("set-user-id", HIGH, "a plain file that is run with the rights of its owner"),
-    KindOfFinding("readable-by-everybody", MIDDLE, "everybody else, whom no list names, can read it along its path"),
+    KindOfFinding("readable-by-everybody", MIDDLE, "everybody else, whom no ACL names, can read it along its path"),
     KindOfFinding("writable-behind-closed", MIDDLE, "everybody else can write it as soon as a directory above is opened"),
     KindOfFinding("writable-by-teams", MIDDLE, "several groups can remove each other's files: the directory is not sticky"),
     KindOfFinding("writer-outside-groups", MIDDLE, "a user can write where nobody else of the user's groups may"),
@@ -103,7 +103,7 @@ def read_line(name: bytes, number: int, line: bytes) -> Accepted:
         raise Failure(b"%s, line %d: %s" % (name, number, b"a quote is open" if words is None else FORM))
     kind = words[0].decode("utf-8", "replace")
     if kind not in BY_NAME:
-        raise Failure(b"%s, line %d: word 1: no such finding; facl-audit --help lists them" % (name, number))
+        raise Failure(b"%s, line %d: word 1: no such finding; facl help audit lists them" % (name, number))
     return Accepted(name, number, kind, read_path(words[1]), words[1].endswith(b"/"))
 
 

@@ -138,7 +138,7 @@ def default_not_inherited(audited: Audited) -> List[FoundFile]:
                 known[pair] = lacking_defaults(*map(read_record, pair))
             if known[pair]:
                 keys = b", ".join(ids.shown(it.key) for it in known[pair] if it.is_named())
-                text = b"lacks %s of %s" % (keys or b"the default list", shown_path(parent_of(path)))
+                text = b"lacks %s of %s" % (keys or b"the default ACL", shown_path(parent_of(path)))
                 words = b",".join(ids.entry(it, b"d:") for it in known[pair])
                 found.append(FoundFile(path, text, b"setfacl -n -m " + words))
     return found

@@ -7,6 +7,7 @@ from typing import Dict, Iterator, List, Optional, Set
 
 from ...base.messages import counted
 from ...base.names import at_or_below, file_name, is_at_or_below, json_text, shell_word, shown, shown_path
+from ...base.programs import program_words
 from ...base.tables import Column, Paint, Table, fitting_line
 from ...model import sources, split_tree
 from ...model.everybody import beside
@@ -68,7 +69,7 @@ def lines_of_kind(kind: KindOfFinding, found: List[FoundFile], is_whole: bool, p
     if len(found) > 1:
         names = b", ".join(shown_path(it.path) for it in found[1 : FIRST + 1])
         yield fitting_line(b"then:  " + names + b", .." * (len(found) > FIRST + 1), INDENT)
-    yield b" " * INDENT + b"for facl-plan: " + shown(found[0].line(is_whole))  # Whole, to be copied.
+    yield b" " * INDENT + b"for facl plan: " + shown(found[0].line(is_whole))  # Whole, to be copied.
 
 
 def summary(report: AuditReport) -> bytes:
@@ -89,20 +90,33 @@ def lines_of(report: AuditReport) -> Iterator[bytes]:
         yield from map(fitting_line, beside(report.meta))
     yield summary(report)
     if report.kinds():
-        name, of_edits = report.kinds()[0].name.encode(), report.given
-        if report.parts:
-            of_edits = argparse.Namespace(**{**vars(report.given), "snapshot": os.fsdecode(report.parts[0])})
-        yield b"all files of one: facl-audit --list %s %s" % (name, written(words_again(report.given)))
-        yield b"all lines of one%s: facl-audit --edits %s %s >edits; facl-plan %s edits" % (
-            b", of the first part" * bool(report.parts), name, written(words_again(of_edits)),
-            written(sources.source_words(of_edits)))
+        yield from lines_again(report, report.kinds()[0].name.encode())
+
+
+def lines_again(report: AuditReport, name: bytes) -> Iterator[bytes]:
+    """What prints all of a finding: verbs, or the commands of a dump, which no verb takes."""
+    given, of_edits = report.given, report.given
+    if report.parts:
+        of_edits = argparse.Namespace(**{**vars(given), "snapshot": os.fsdecode(report.parts[0])})
+    verbs = (b"facl audit --list", b"facl audit fix", b"facl plan")
+    files, edits, plan = verbs if given.dump is None else (b"facl-audit --list", b"facl-audit --edits", b"facl-plan")
+    yield b"all files of one: %s %s %s" % (files, name, written(words_again(given)))
+    yield b"all lines of one%s: %s %s %s >edits; %s %s edits" % (
+        b", of the first part" * bool(report.parts), edits, name, written(words_again(of_edits)), plan,
+        written(words_of_source(of_edits)))
+
+
+def words_of_source(given: argparse.Namespace) -> List[str]:
+    """The words of a verb that name the snapshot, or those of a command that name a dump."""
+    return sources.source_words(given) if given.dump is not None else [*program_words(given), "-s", given.snapshot]
 
 
 def words_again(given: argparse.Namespace) -> List[str]:
     """The words that say what the findings are of, for another run."""
-    flags = ["--all-users"] * given.all_users + ["--with-root"] * given.with_root + ["--file-alone"] * given.file_alone
+    alone = "--alone" if given.dump is None else "--file-alone"
+    flags = ["--all-users"] * given.all_users + ["--with-root"] * given.with_root + [alone] * given.file_alone
     accepted = [] if given.accepted is None else ["--accepted", given.accepted]
-    return [*flags, *accepted, *sources.source_words(given), *given.folders]
+    return [*flags, *accepted, *words_of_source(given), *given.folders]
 
 
 def written(words: List[str]) -> bytes:
@@ -115,14 +129,14 @@ def table_of(report: AuditReport) -> Table:
     rows = [[kind.weight.encode(), kind.name.encode(), b"%d" % len(found), shown_path(found[0].path), found[0].detail,
              found[0].line(report.is_whole)] for kind in report.kinds() for found in [report.findings[kind.name]]]
     columns = [Column("WEIGHT"), Column("FINDING"), Column("FILES", True), Column("FIRST"), Column("WHAT"),
-               Column("FOR FACL-PLAN")]
+               Column("FOR FACL PLAN")]
     return Table(columns, rows)
 
 
 def table_of_files(found: List[FoundFile], is_whole: bool) -> Table:
     """A row for each file of a finding."""
     rows = [[shown_path(it.path), it.detail, it.line(is_whole)] for it in found]
-    return Table([Column("FILE"), Column("WHAT"), Column("FOR FACL-PLAN")], rows)
+    return Table([Column("FILE"), Column("WHAT"), Column("FOR FACL PLAN")], rows)
 
 
 def json_of_kind(kind: KindOfFinding, found: List[FoundFile], has_all: bool, is_whole: bool) -> Dict[str, object]:

@@ -121,7 +121,7 @@ def write(command: Command, given: argparse.Namespace, report: CheckReport) -> N
 def body(command: Command, words: List[str]) -> int:
     given = parse(words)
     if not given.write and given.rules is None:
-        raise Failure(b"RULES is missing: facl-check --write SNAPSHOT FOLDER >rules writes a file of those that hold")
+        raise Failure(b"RULES is missing; facl rules FOLDER >rules writes those that hold now")
     if given.write and (given.json or given.tsv):
         raise Failure(b"--write prints rules: leave out --json and --tsv")
     with sources.opened(given) as source:

@@ -112,7 +112,7 @@ class RuleReader:
         if b".." in word.split(b"/"):
             raise BadRule(of_word(place, b"write the path from the root, without .."))
         if not word:
-            raise BadRule(b"an empty word is no PATH; all files are those of /")
+            raise BadRule(b"an empty word is not a PATH; / means all files")
         path = read_path(word)
         if path and not (self.is_in_part(path) if self.is_in_part else is_recorded(self.world.session, path)):
             raise BadRule(of_word(place, b"no such file in the snapshot"))
@@ -143,7 +143,7 @@ class RuleReader:
         if faults:
             raise Faults(faults)
         if not found:
-            raise Failure(shown + b": has no rules: facl-check --write SNAPSHOT FOLDER writes those that hold")
+            raise Failure(shown + b": has no rules; facl rules FOLDER prints those that hold now")
         return found
 
 

@@ -267,5 +267,5 @@ def body(command: Command, words: List[str]) -> int:
         write(command, given, compared)
     if target is not None and page is not None:
         target.write(page)
-        command.say(target.name + b": is written")
+        command.say(b"wrote " + target.name)
     return DIFFERS if compared.rows else SAME

@@ -82,14 +82,14 @@ def summary(compared: Compared) -> bytes:
     """What differs in the files and users, whether somebody may do otherwise or not."""
     files, people = compared.files, compared.people
     users = [list(map(write_user, names)) for names in people[:3]]
-    parts = [*numbers(b"files", (files.changed, b"with another owner, group, flags or list", []),
+    parts = [*numbers(b"files", (files.changed, b"with another owner, group, flags or ACL", []),
                       (files.made, b"new", []), (files.removed, b"gone", []),
                       (len(compared.moved), b"of these moved", [])),
              *numbers(b"users", (len(users[0]), b"new", users[0]), (len(users[1]), b"gone", users[1]),
                       (len(users[2]), b"with another id", users[2])),
              *numbers(b"memberships", (people.joined, b"new", []), (people.left, b"gone", []))]
     if not parts:
-        return b"nothing differs: the same users, groups of users, files and lists"
+        return b"nothing differs: the same users, groups of users, files and ACLs"
     return (b"" if compared.rows else b"nobody gained or lost anything; ") + b"; ".join(parts)
 
 

@@ -37,7 +37,7 @@ class Right(NamedTuple):
 def read_right(text: str) -> Right:
     """A right as a person writes it: a word, or letters."""
     if text not in WORDS and not LETTERS.match(text):
-        raise Failure(b"%s: is no right: read, write, enter, or letters of rwx, with commas between several"
+        raise Failure(b"%s: is not a right; give read, write, enter, or letters of rwx, with commas between several"
                       % text.encode("utf-8", "surrogateescape"))
     letters = WORDS.get(text) or "".join(it for it in "rwx" if it in text).encode()
     word = "".join(it if it in letters.decode() else "-" for it in "rwx")
@@ -138,10 +138,10 @@ class Asker:
         if word.isdigit() and not has_row:
             return NamedUser(word, number_of(word))
         if word.isdigit():
-            raise Failure(word + b": is the id of no user of the snapshot")
+            raise Failure(word + b": no user of the snapshot has this id")
         near = difflib.get_close_matches(word.decode("latin-1"), [user.name.decode("latin-1") for user in self.users])
         names = b", ".join(write_user(name.encode("latin-1")) for name in near)
-        raise Failure(word + b": is no user of the snapshot" + (b": there is " + names if near else b""))
+        raise Failure(word + b": no such user in the snapshot" + (b"; did you mean " + names + b"?" if near else b""))
 
     def anybody(self, word: bytes) -> NamedUser:
         """A user whom the program can be asked about, or everybody else."""

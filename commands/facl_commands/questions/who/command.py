@@ -73,13 +73,13 @@ def add_questions(parser: argparse.ArgumentParser) -> None:
     form.add_argument("--names", metavar="USER", help="the files of which an entry names a user; an id needs no user")
     form.add_argument("--remove", metavar="FILE", help="who can remove a file")
     form.add_argument("--new-file", metavar=("FOLDER", "USER"), nargs=2,
-                      help="which lists a new file and a new folder of a user get there")
+                      help="which ACLs a new file and a new folder of a user get there")
     parser.add_argument("--depth", metavar="N", type=depth, default=2,
                         help="with --user: folders so far below each FOLDER; 2 without it")
     parser.add_argument("--umask", metavar="MASK", type=mask, default="022",
-                        help="with --new-file: where there is no default list; 022 without it")
+                        help="with --new-file: the umask where the folder has no default ACL (default: 022)")
     parser.add_argument("--lists-alone", action="store_true",
-                        help="also files that nobody can write, though lists grant it: immutable ones, and those on read-only file "
+                        help="also files that nobody can write, though ACLs grant it: immutable ones, and those on read-only file "
                         "systems")
 
 
@@ -91,7 +91,7 @@ def depth(word: str) -> int:
 
 def mask(word: str) -> str:
     if not 1 <= len(word) <= 4 or set(word) - set("01234567") or int(word, 8) > 0o777:
-        raise argparse.ArgumentTypeError("%r is no mask of octal digits up to 0777" % word)
+        raise argparse.ArgumentTypeError("%r is not a mask of octal digits up to 0777" % word)
     return word
 
 
@@ -112,12 +112,12 @@ def parse(words: List[str]) -> argparse.Namespace:
 
 def check_source(source: Source, given: argparse.Namespace) -> None:
     """Fails where there is no snapshot, with the order of the words, which are easily exchanged."""
-    words = b"; the words here are: facl-who " + QUESTIONS[given.question].encode()
+    words = b"; the words are: facl-who " + QUESTIONS[given.question].encode()
     if os.path.isfile(source.folder):
-        raise Failure(source.shown + b": is a file, and no snapshot; a file of getfacl -R comes by --dump "
+        raise Failure(source.shown + b": is a file, not a snapshot; if getfacl -R printed it, make one of it: facl import "
                       + shell_word(source.shown) + words)
     if not is_folder(source.folder) or not all(map(folder_of(source.folder).has, NEEDED)):
-        raise Failure(source.shown + b": is no snapshot, which is made as root by facl-snapshot DIR FOLDER" + words)
+        raise Failure(source.shown + b": is not a snapshot; make one as root with facl snapshot FOLDER" + words)
     check_texts(source.folder)
 
 
@@ -173,7 +173,7 @@ def notes(asker: Asker, answer: WhoAnswer) -> Iterator[bytes]:
     given = asker.given
     yield from choice.notes(answer.left_out, asker.passwd)
     if asker.unwritable is not None:
-        yield b"left out, as nobody can write them: " + asker.unwritable.text() + b" (--lists-alone)"
+        yield b"not shown, as nobody can write them: " + asker.unwritable.text() + b"; --lists-alone shows them"
     asks_for_x = given.user is not None or not given.question and any(b"x" in it.letters for it in read_rights(given.perms))
     noexec = asker.judged_by.mounted(NOEXEC, asker.folders) if asks_for_x else []
     if noexec:
@@ -197,5 +197,5 @@ def body(command: Command, words: List[str]) -> int:
             command.say(note)
         if given.user is not None and not given.with_root and asker.anybody(os.fsencode(given.user)).uid == SUPERUSER:
             command.say(os.fsencode(given.user) + b": has the uid 0, to which the kernel grants nearly everything; "
-                        b"this is what lists grant it")
+                        b"this is what ACLs grant it")
     return SOMEBODY if answer.table.rows else NOBODY

@@ -29,8 +29,8 @@ def removed_path(asker: Asker, word: str) -> bytes:
     if not path:
         raise Failure(b"/: cannot be removed")
     if not choice.is_recorded(asker.session, parent_of(path)):
-        raise Failure(asker.name_of(path) + b": the folder above it is not recorded, so nobody knows who may change it: "
-                      b"make a snapshot by facl-snapshot")
+        raise Failure(asker.name_of(path) + b": its parent directory is not recorded, so nobody knows who may change it; "
+                      b"make a snapshot with facl snapshot")
     return path
 
 
@@ -103,15 +103,15 @@ def make(asker: Asker, folder: bytes, user: bytes, kind: str) -> Made:
 def answer_new_file(asker: Asker, folder: bytes, user: NamedUser) -> WhoAnswer:
     word, name = asker.word_of(user.shown), asker.name_of(folder)
     if not asks_as_directory(asker.session, folder):
-        raise Failure(name + b": is no folder")
+        raise Failure(name + b": is not a folder")
     granted = b"".join(asker.lines_of(CAN, word, path_word(folder))).split(b" ")
     kept_out = asker.judged_by.keeps_out(folder)
     why = None if kept_out is None else b"it is " + kept_out
     is_allowed = CHANGE.word.encode() in granted and why is None
     made = [make(asker, folder, word, kind) for kind in KINDS] if is_allowed else []
     default = read_record(asker.records([LIST_NUMBERS + b" " + path_word(folder)])[0]).default
-    origin = (b"by the default list of " + name if default
-              else name + b" has no default list, so the umask counts, taken as " + asker.given.umask.encode())
+    origin = (b"by the default ACL of " + name if default
+              else name + b" has no default ACL, so the umask counts, taken as " + asker.given.umask.encode())
     rows = [[it.kind, line] for it in made for line in it.lines]
     left_out = list(dict.fromkeys(user for it in made for user in it.left_out))
     notes = [it.summary for it in made] + asker.beside(user for it in made for user in it.users)
