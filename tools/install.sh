@@ -71,7 +71,7 @@ uninstall() {
     done
     for name in facl $commands; do rm -f -- "$to/$completions/$name"; done
     rm -f -- "$to/$zsh/_facl" "$to/$fish/facl.fish"
-    rm -rf -- "$to/libexec/facl"
+    rm -rf -- "$to/libexec/facl" "$to/share/facl"
 }
 
 # check_parts: what has to be there before anything is written
@@ -139,6 +139,8 @@ install_files() {
     [ -z "$linux_program" ] || name_page facl_linux man5/facl-script.5
     name_page facl-report man1/facl-commands.1
     install_completion
+    install -d -m 755 -- "$to/share/facl/schemas"
+    install -m 644 -- "$top"/commands/schemas/*.json "$to/share/facl/schemas"
 }
 
 warn() {

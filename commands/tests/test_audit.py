@@ -310,7 +310,7 @@ all lines of one: facl audit fix set-user-id -s small >edits; facl plan -s small
         self.assertEqual(found["schema"], "facl-audit/1")
         self.assertEqual([(it["finding"], it["weight"], it["count"]) for it in found["findings"]],
                          [("set-user-id", "high", 1), ("set-group-id", "middle", 2)])
-        self.assertEqual(found["findings"][0]["files"], [{"path": "srv/hr/new", "what": "", "mend": "chmod 2750 /srv/hr/new"}])
+        self.assertEqual(found["findings"][0]["files"], [{"path": "/srv/hr/new", "what": "", "edit": "chmod 2750 /srv/hr/new"}])
         one = json.loads(self.audit("--json", "--list", "set-group-id").out)
         self.assertEqual([len(it["files"]) for it in one["findings"]], [2])
 

@@ -180,8 +180,8 @@ small (of srva, 2026-11-27T03:10:00Z): 2 of 3 rules do not hold
         self.assertEqual((found["schema"], found["broken"]), ("facl-check/1", 2))
         self.assertEqual([it["holds"] for it in found["rules"]], [False, False, True])
         self.assertEqual(found["rules"][1]["violations"], [{
-            "user": "bert", "count": 1, "files": ["srv/hr/cases/two"],
-            "entries": [{"path": "srv/hr/cases/two", "entries": ["group::rw- (effective r--)"]}], "who_else": ["anna"]}])
+            "user": "bert", "count": 1, "paths": ["/srv/hr/cases/two"],
+            "entries": [{"path": "/srv/hr/cases/two", "entries": ["group::rw- (effective r--)"]}], "who_else": ["anna"]}])
 
 
 class Digits(Checks):

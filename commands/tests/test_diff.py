@@ -112,7 +112,7 @@ users: 1 new (yves), 1 gone (ben)
         self.edit("after/passwd", (b"guest:x:1009", b"twin:x:1002:300:::\nguest:x:1009"))
         report = self.report()
         self.assertEqual(report["answered_by"], "index")
-        self.assertEqual(report["changes"], [{"before": "absent", "after": "r-x", "users": ["twin"], "files": 2, "first": "/",
+        self.assertEqual(report["changes"], [{"before": "absent", "after": "r-x", "users": ["twin"], "count": 2, "path": "/",
                                               "why": "new user"}])
         self.assertEqual(report["users"], {"new": ["twin"], "removed": [], "other_id": []})
 
@@ -177,8 +177,8 @@ files: 1 with another owner, group, flags or ACL
 """)
         row = ("r-x", "rwx", "1", "/srv", "others' entry changed")
         self.assertEqual(self.rows(), [(*row[:2], user, *row[2:]) for user in ("everybody else", "ines", "ben", "mara", "guest")])
-        changes = [{"before": "r-x", "after": "rwx", "users": ["everybody else", "ines", "ben", "mara", "guest"], "files": 1,
-                    "first": "/srv", "why": "others' entry changed"}]
+        changes = [{"before": "r-x", "after": "rwx", "users": ["everybody else", "ines", "ben", "mara", "guest"], "count": 1,
+                    "path": "/srv", "why": "others' entry changed"}]
         self.assertEqual(self.report()["changes"], changes)
         self.assertEqual((self.report("/srv")["changes"], self.report("/srv")["answered_by"]), (changes, "index"))
 
@@ -229,7 +229,7 @@ files: 1 with another owner, group, flags or ACL
         self.assertNotIn(beside, self.diff().out)
         self.edit("after/dump", (self.SRV % b"r-x", self.SRV % b"rwx"))
         self.assertIn(beside, self.diff().out)
-        self.assertEqual(self.report()["after"]["users_asked_for"], 13)
+        self.assertEqual(self.report()["snapshot"]["users_asked_for"], 13)
 
     def test_no_answer_has_the_name_in_questions(self) -> None:
         self.edit("after/dump", (self.SRV % b"r-x", self.SRV % b"rwx"), (self.SHARE % b"---", self.SHARE % b"--x"))
@@ -471,12 +471,14 @@ facl-diff: warning: left out of before alone as another file system, so what is 
         self.edit("after/group", (b"staff:x:100:", b"staff:x:100:guest"))
         self.assertEqual(self.report(), {
             "schema": "facl-diff/1", "version": "0", "judge": "linux",
-            "before": {"snapshot": "before", "host": "srva", "date": "2026-11-26T03:10:00Z", "users_asked_for": None},
-            "after": {"snapshot": "after", "host": None, "date": None, "users_asked_for": None},
-            "folders": [], "along_paths": True, "answered_by": "gains",
-            "changes": [{"before": "none", "after": "r--", "users": ["guest"], "files": 9, "first": "/srv/share/-x",
+            "snapshot": {"name": "after", "path": "after", "host": None, "date": None, "folders": [], "excludes": [], "users_asked_for": None},
+            "options": {"along_paths": True, "all_users": False, "with_root": False},
+            "before": {"name": "before", "path": "before", "host": "srva", "date": "2026-11-26T03:10:00Z", "folders": ["/srv/share"],
+                       "excludes": [], "users_asked_for": None},
+            "folders": [], "answered_by": "gains",
+            "changes": [{"before": "none", "after": "r--", "users": ["guest"], "count": 9, "path": "/srv/share/-x",
                          "why": "new member of staff"},
-                        {"before": "none", "after": "r-x", "users": ["guest"], "files": 1, "first": "/srv/share",
+                        {"before": "none", "after": "r-x", "users": ["guest"], "count": 1, "path": "/srv/share",
                          "why": "new member of staff"}],
             "left_out": [],
             "files": {"changed": 0, "new": 0, "removed": 0, "moved": []},

@@ -157,7 +157,7 @@ class EmptyMask(SmallTree):
         for name, words in cases:
             for option, judge in judges:
                 found = json.loads(self.run_command(name, ["--json", *option, *words]).out)
-                self.assertEqual((found["judge"], list(found).index("judge")), (judge, 0 if name == "facl-plan" else 2), name)
+                self.assertEqual((found["judge"], list(found).index("judge")), (judge, 2), name)
 
     def test_each_page_has_the_judge(self) -> None:
         shutil.copytree(self.path("small"), self.path("later"))

@@ -257,7 +257,7 @@ class Who(MarkedCase):
     def test_json(self) -> None:
         self.mark_some()
         found = self.read_json("facl-who", "write", "project", SRV, README, SRV + "/audit")
-        self.assertEqual(found["marked"], [{"file": SRV, "marks": ["immutable"]}, {"file": README, "marks": ["immutable"]}])
+        self.assertEqual(found["marked"], [{"path": SRV, "marks": ["immutable"]}, {"path": README, "marks": ["immutable"]}])
         self.assertEqual(found["unwritable"], {"immutable": 2, "on-read-only": 2})
         self.assertEqual(self.read_json("facl-who", "read", "project")["unwritable"], {})
         self.assertEqual(self.read_json("facl-who", "--remove", SRV + "/notes.txt", "project", status=1)["since"], "the folder above is immutable")
@@ -381,8 +381,8 @@ class Planned(MarkedCase):
         self.assertTrue(os.path.exists(self.path("plan/files")))
         done = self.run_command("facl-plan", ["--json", "--plan", "other", "project", "edits"])
         self.assertEqual(json.loads(done.out)["stuck"], [
-            {"file": README, "why": "it is immutable"},
-            {"file": SRV + "/drafts/old/logo 1.svg", "why": "the folder above is on a read-only file system"}])
+            {"path": README, "why": "it is immutable"},
+            {"path": SRV + "/drafts/old/logo 1.svg", "why": "the folder above is on a read-only file system"}])
         self.mark()
         self.assertEqual(self.run_command("facl-plan", ["--plan", "third", "project", "edits"]).messages, b"")
         self.write("project/meta", self.read("project/meta") + b"nfs4-list 3\n")

@@ -99,7 +99,7 @@ class Lines(Case):
         script = b"setfacl -n -m u:guest:r srv/share/notes\n"
         report = json.loads(self.plan(script, "--json").out)
         self.assertEqual(report["no_gain"], [{
-            "user": "guest", "files": 1, "directory": "/srv/share", "entries": ["other::---"],
+            "user": "guest", "count": 1, "path": "/srv/share", "entries": ["other::---"],
             "edit": "setfacl -n -m u:guest:x /srv/share", "closed_below": 0,
         }])
         self.assertIn(b"guest  no gain  ", self.plan(script, "--full").out)

@@ -180,10 +180,10 @@ class Reports(Case):
         report = json.loads(done.out)
         self.assertEqual(done.status, 0)
         self.assertEqual(report["plan"], "before.plan")
-        self.assertEqual(report["records"], ["/srv/share/notes", "/srv/share/p\\351q"])
+        self.assertEqual(report["changed"], ["/srv/share/notes", "/srv/share/p\\351q"])
         self.assertEqual(report["changes"], [
-            {"user": "mara", "from": "r--", "to": "rw-", "files": 1, "first": "/srv/share/notes"},
-            {"user": "guest", "from": "none", "to": "r--", "files": 2, "first": "/srv/share/notes"},
+            {"user": "mara", "from": "r--", "to": "rw-", "count": 1, "path": "/srv/share/notes"},
+            {"user": "guest", "from": "none", "to": "r--", "count": 2, "path": "/srv/share/notes"},
         ])
         self.assertEqual(report["answers"], [
             {"script": "edits", "line": 2, "question": "can guest srv/share/notes", "answer": "r--\n"}
@@ -202,13 +202,13 @@ class Reports(Case):
         done = self.plan(script, "--full", "--json")
         report = json.loads(done.out)
         self.assertEqual(done.out.decode(), json.dumps(report, indent=2) + "\n")
-        self.assertEqual([[it["user"], it["from"], "->", it["to"], it["file"]] for it in report["changes"]],
+        self.assertEqual([[it["user"], it["from"], "->", it["to"], it["path"]] for it in report["changes"]],
                          [[*row[:-1], "/" + row[-1].lstrip(".")] for row in rows])
         self.assertGreater(len(rows), 20)
 
     def test_the_root_in_json(self) -> None:
         report = json.loads(self.plan(b"chmod 700 /\n", "--json", "--file-alone").out)
-        self.assertEqual(({it["first"] for it in report["changes"]}, report["records"]), ({"/"}, ["/"]))
+        self.assertEqual(({it["path"] for it in report["changes"]}, report["changed"]), ({"/"}, ["/"]))
 
     def test_nothing_to_do(self) -> None:
         message = b"facl-plan: nothing to do: no line changes an ACL, an owner, a flag, a file or a user\n"
@@ -246,7 +246,7 @@ guest           none -> r--    2 files   first: srv/share/one
     def test_json(self) -> None:
         report = json.loads(self.plan(self.SCRIPT, "--json").out)
         self.assertEqual([tuple(it.values()) for it in report["changes"]], [(*row[:4], "/" + row[4]) for row in self.CHANGES])
-        self.assertEqual((list(report)[0], report["judge"], report["left_out"]), ("judge", "linux", ["root"]))
+        self.assertEqual((list(report)[:3], report["judge"], report["left_out"]), (["schema", "version", "judge"], "linux", ["root"]))
         self.assertEqual(json.loads(self.plan(self.SCRIPT, "--acl5", "--json").out)["judge"], "acl5")
 
     def test_each_file(self) -> None:
@@ -527,8 +527,8 @@ class Names(Case):
         for script in (b"setfacl -m u:guest:r %s %s\n" % names, b"rm %s %s\n" % names):
             for view, number in (("--json", 1), ("--full", 2)):
                 report = json.loads(self.plan(script, "--json", "--file-alone", *{view} - {"--json"}).out)
-                self.assertEqual(sorted(report["records"] + report["removed"]), wanted)
-                found = {it["file" if view == "--full" else "first"] for it in report["changes"]}
+                self.assertEqual(sorted(report["changed"] + report["removed"]), wanted)
+                found = {it["path"] for it in report["changes"]}
                 self.assertLessEqual(found, set(wanted))
                 self.assertEqual(len(found), number)
 
@@ -546,7 +546,7 @@ class Names(Case):
         done = self.plan_with(b"z\033", b"setfacl -m u:guest:r 'srv/share/z\\033'\n", "--full", "--file-alone")
         self.assertTrue(done.out.startswith(b"guest\tnone\t->\tr--\tsrv/share/z\033\n"), done.out)
         report = json.loads(self.plan(self.read("edits"), "--json", "--file-alone").out)
-        self.assertEqual(report["changes"][0]["first"], "/srv/share/z\033")
+        self.assertEqual(report["changes"][0]["path"], "/srv/share/z\033")
 
     def test_full_at_a_terminal(self) -> None:
         self.plan_with(b"z\033", b"setfacl -m u:guest:r 'srv/share/z\\033'\n")
@@ -645,7 +645,7 @@ class Owners(Case):
         self.assertEqual(json.loads(done.out)["left_behind"], [])
         done = self.plan(b"userdel mara\nchown -R ines srv/share/drafts\n", "--json")
         self.assertEqual(json.loads(done.out)["left_behind"],
-                         [{"user": "mara", "uid": 1003, "owned": 0, "named": 1, "first": "/srv/share/notes"}])
+                         [{"user": "mara", "uid": 1003, "owned": 0, "named": 1, "path": "/srv/share/notes"}])
 
 
 class AnyDump(Case):
@@ -681,7 +681,7 @@ class AnyDump(Case):
             b"0 files change owner, group, flags or ACL; 0 files are made, 1 removed; 1 command has to be run by hand",
             b"by hand: userdel mara", b"mara is removed and still owns 2 files, first: drafts"])
         report = json.loads(self.plan_of(b"", b"rm -r drafts\nchown ines:audit notes\n", "--json").out)
-        self.assertEqual((report["plan"], report["records"], report["removed"], report["by_hand"]),
+        self.assertEqual((report["plan"], report["changed"], report["removed"], report["by_hand"]),
                          (None, ["notes"], ["drafts", "drafts/logo"], []))
         self.assertEqual(self.plan_of(b"", b"chown ines notes\n").status, 3)
         self.assertEqual(self.plan_of(b"", b"rm -r drafts notes\n").status, 0)

@@ -115,8 +115,8 @@ class SplitCase(Case):
     def compared(self, *names: str) -> Dict[str, object]:
         """What facl-diff prints of two snapshots, but their names and how it was found."""
         given = diff.parse(["--json", *(self.path(name) for name in names)])
-        found = diff_report.object_of(diff.compare(Command("facl-diff"), given)[0])
-        return {key: value for key, value in found.items() if key not in ("before", "after", "answered_by")}
+        found = diff_report.object_of(given, diff.compare(Command("facl-diff"), given)[0])
+        return {key: value for key, value in found.items() if key not in ("snapshot", "before", "answered_by")}
 
     def audited(self, name: str) -> Tuple[object, ...]:
         given = audit.parse(["--json", self.path(name)])
@@ -131,7 +131,7 @@ class SplitCase(Case):
         given = check.parse(["--json", self.path(name), self.path("rules")])
         folder = os.fsencode(self.path(name))
         found = check.report_of(given, sources.Source(folder, folder, False), LINUX.find())
-        return {key: value for key, value in json_of_rules(found).items() if key != "snapshot"}
+        return {key: value for key, value in json_of_rules(given, found).items() if key != "snapshot"}
 
 
 class Changes(SplitCase):
@@ -167,7 +167,7 @@ class Changes(SplitCase):
                 world = small()
                 world.make(name, NAMED)
                 found = self.expect_files(world, 0, 1, 0)
-                rights = [(it["before"], it["after"], it["users"], it["files"], it["first"])
+                rights = [(it["before"], it["after"], it["users"], it["count"], it["path"])
                           for it in found["changes"]]  # type: ignore[attr-defined]
                 self.assertEqual(rights, [("absent", "rw-", ["anna", "bert"], 1, "/" + name.decode())])
 
@@ -193,7 +193,7 @@ class Changes(SplitCase):
         world = small()
         world.files[b"srv/a"] = world.files[b"srv/a"]._replace(body=OPEN.replace(b"other::r-x", b"other::---"))
         found = self.expect_files(world, 1, 0, 0)
-        rights = [(it["before"], it["after"], it["users"], it["files"], it["first"], it["why"])
+        rights = [(it["before"], it["after"], it["users"], it["count"], it["path"], it["why"])
                   for it in found["changes"]]  # type: ignore[attr-defined]
         self.assertEqual(rights, [
             ("r-x", "none", ["everybody else", "anna", "bert", "carl", "dora"], 1, "/srv/a", "others' entry changed"),

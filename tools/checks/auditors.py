@@ -193,7 +193,7 @@ def compare_rules(world: World, rights: Rights, number: int, *options: str) -> T
         file.write("".join(rule.words + "\n" for rule in rules))
     os.chmod(name, 0o600)
     found = json.loads(world.command("facl-check", "--json", *options, world.snapshot, name))["rules"]
-    said = [{(OTHERS if it["user"] == SHOWN else it["user"], it["count"], tuple("/" + path for path in it["files"]))
+    said = [{(OTHERS if it["user"] == SHOWN else it["user"], it["count"], tuple(it["paths"]))
              for it in rule["violations"]} for rule in found]
     odd = [(rule.words, *sorted(rule.broken ^ its)) for rule, its in zip(rules, said) if rule.broken != its]
     broken = sum(len(rule.broken) for rule in rules)
@@ -240,7 +240,7 @@ def compare_findings(world: World, along: Rights, alone: Rights) -> Tuple[int, i
         found = json.loads(world.command("facl-audit", "--json", "--list", name, world.snapshot))["findings"]
         files = [it for kind in found for it in kind["files"]]
         is_of_users = name == "writer-outside-groups"
-        said = {("/" + it["path"], user) for it in files for user in (
+        said = {(it["path"], user) for it in files for user in (
             (word.split(" ")[1] for word in it["what"].split(", ")) if is_of_users else ("",))}
         print(f"facl-audit: {name}: {len(wanted)}, {len(wanted ^ said)} differ")
         show_odd(wanted ^ said)

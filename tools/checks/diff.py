@@ -267,7 +267,7 @@ def answered(report: Dict[str, object]) -> Dict[Change, Tuple[int, bytes]]:
     assert isinstance(changes, list)
     for row in changes:
         for user in row["users"]:
-            found[user.encode(), row["before"], row["after"]] = row["files"], row["first"].encode()
+            found[user.encode(), row["before"], row["after"]] = row["count"], row["path"].encode()
     return found
 
 

@@ -152,6 +152,11 @@ def json_text(text: bytes) -> str:
     return text.decode("utf-8", "facl-escapes")
 
 
+def json_name(name: bytes) -> str:
+    """The name of a file on the system, for JSON: a backslash is an escape too, so two names are two texts."""
+    return json_text(write_name(name))
+
+
 def escaped_letter(found: Match[str]) -> str:
     """The bytes of a letter, as escapes."""
     return "".join("\\%03o" % byte for byte in found[0].encode())

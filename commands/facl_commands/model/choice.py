@@ -3,7 +3,7 @@ from __future__ import annotations
 
 import argparse
 import os
-from typing import Callable, Iterable, Iterator, List, Optional, Set
+from typing import Callable, Dict, Iterable, Iterator, List, Optional, Set
 
 from ..base.accounts import PEOPLE, SUPERUSER, is_person
 from ..base.messages import Failure, counted
@@ -29,6 +29,16 @@ def add_choice(parser: argparse.ArgumentParser, folders: str = "*", default: str
     if folders:
         parser.add_argument("folders", metavar="FOLDER", nargs=folders, default=[],
                             help="as on the live system, or from the root of the snapshot; without one, " + default)
+
+
+# --- the head of JSON
+
+
+def head_of(given: argparse.Namespace, folder: bytes, about: meta.Meta) -> Dict[str, object]:
+    """What each object of JSON has first: the snapshot that it is of, and by which options."""
+    known = vars(given)
+    options = {name: bool(known[name]) for name in ("all_users", "with_root") if name in known}
+    return {"snapshot": meta.fields_of(folder, about), "options": {"along_paths": not given.file_alone, **options}}
 
 
 # --- users

@@ -6,7 +6,7 @@ from typing import Dict, List, NamedTuple, Optional
 
 from ..base import beside
 from ..base.folders import folder_of, is_folder
-from ..base.names import json_text, number_of
+from ..base.names import json_name, json_text, number_of
 
 NAME = b"meta"
 FILES, USERS, GROUPS, LINKED = b"files", b"users", b"groups", b"linked-names"  # How many are recorded.
@@ -64,10 +64,12 @@ def users_asked_for(meta: Meta) -> Optional[int]:
     return number_of(number) if number.isdigit() else None
 
 
-def fields_of(meta: Meta) -> Dict[str, object]:
-    """For JSON."""
-    texts = {name: None if meta is UNKNOWN else json_text(text) for name, text in (("host", meta.host), ("date", meta.date))}
-    return {**texts, "users_asked_for": users_asked_for(meta)}
+def fields_of(folder: bytes, meta: Meta) -> Dict[str, object]:
+    """What JSON has of the snapshot in a folder."""
+    host, date = (None if meta is UNKNOWN else json_text(text) for text in (meta.host, meta.date))
+    return {"name": json_name(os.path.basename(folder.rstrip(b"/"))), "path": json_name(folder), "host": host, "date": date,
+            "folders": [*map(json_text, meta.folders)], "excludes": [*map(json_text, meta.excludes)],
+            "users_asked_for": users_asked_for(meta)}
 
 
 def is_of_another_host(meta: Meta) -> bool:

@@ -277,7 +277,7 @@ def plan_over(command: Command, given: argparse.Namespace, source: sources.Sourc
         if kept is not None:
             command.say(b"kept the earlier plan as " + kept)
     if given.json:
-        for part in json_report(given, outcome, changes, commands, written, stuck):
+        for part in json_report(given, source, outcome, changes, commands, written, stuck):
             command.write(part)
     elif is_shown:
         if outcome.about is not meta.UNKNOWN:

@@ -8,18 +8,21 @@ import os
 from functools import lru_cache
 from typing import Dict, Iterable, Iterator, List, NamedTuple, Optional, Set
 
+from .. import VERSION
 from ..base.messages import counted
-from ..base.names import file_name, json_text, shell_word, shown
+from ..base.names import file_name, json_name, json_text, shell_word, shown
 from ..base.programs import judge_word
 from ..base.user_tools import PeopleChange
-from ..model import meta, rights
+from ..model import choice, meta, rights
 from ..model.everybody import SHOWN, beside
 from ..model.gains import Gain
 from ..model.records import ChangedPaths, Files
+from ..model.sources import Source
 from ..program.answering import below_heading
 from . import chown, no_gain
 from .replay import Asked, Message
 
+SCHEMA = "facl-plan/1"
 AT_ONCE = 100_000  # Parts of JSON that are written at once.
 PLAIN = bytes(range(0x20, 0x7F)) + b"\t\n"  # What is shown as it is, and what is between lines.
 
@@ -155,15 +158,15 @@ def rights_json(outcome: Outcome, is_full: bool) -> List[Dict[str, object]]:
     name_of = outcome.name_of_shown
     if is_full:
         users = {it.user: json_text(it.user) for group in outcome.rights.groups for it in group.differences}
-        return [{"user": users[it.user], "from": it.old, "to": it.new, "file": name}
+        return [{"user": users[it.user], "from": it.old, "to": it.new, "path": name}
                 for file, group in outcome.rights.files for name in [json_text(name_of(file))]
                 for it in group.differences]
-    return [{"user": json_text(user), "from": old, "to": new, "files": count, "first": json_text(name_of(first))}
+    return [{"user": json_text(user), "from": old, "to": new, "count": count, "path": json_text(name_of(first))}
             for user, old, new, count, first in outcome.kinds.kinds]
 
 
 def no_gain_json(outcome: Outcome, it: no_gain.NoGain) -> Dict[str, object]:
-    return {"user": json_text(it.user), "files": it.files, "directory": json_text(outcome.name_of_shown(it.directory)),
+    return {"user": json_text(it.user), "count": it.files, "path": json_text(outcome.name_of_shown(it.directory)),
             "entries": texts(map(no_gain.shown_entry, it.entries)), "edit": json_text(it.edit),
             "closed_below": it.closed}
 
@@ -174,22 +177,22 @@ def message_json(it: Message) -> Dict[str, object]:
     return found if it.is_warning else {**found, "cause": texts(it.cause())}
 
 
-def json_report(given: argparse.Namespace, outcome: Outcome, changes: ChangedPaths, commands: List[bytes], plan: Optional[bytes],
-                stuck: Dict[bytes, bytes]) -> Iterator[bytes]:
+def json_report(given: argparse.Namespace, source: Source, outcome: Outcome, changes: ChangedPaths, commands: List[bytes],
+                plan: Optional[bytes], stuck: Dict[bytes, bytes]) -> Iterator[bytes]:
     names = [texts(map(outcome.name_of, paths)) for paths in (changes.changed, changes.made, changes.removed)]
-    report = {
-        "judge": judge_word(given),
-        "snapshot": meta.fields_of(outcome.about),
-        "plan": None if plan is None else json_text(plan),
+    report: Dict[str, object] = {
+        "schema": SCHEMA, "version": VERSION, "judge": judge_word(given),
+        **choice.head_of(given, source.shown, outcome.about),
+        "plan": None if plan is None else json_name(plan),
         "changes": rights_json(outcome, given.full),
         "no_gain": [no_gain_json(outcome, it) for it in outcome.no_gain],
         "left_out": texts(sorted(outcome.kinds.left_out)),
-        **dict(zip(("records", "made", "removed"), names)),
-        "stuck": [{"file": json_text(outcome.name_of(path)), "why": json_text(why)} for path, why in stuck.items()],
+        **dict(zip(("changed", "made", "removed"), names)),
+        "stuck": [{"path": json_text(outcome.name_of(path)), "why": json_text(why)} for path, why in stuck.items()],
         "by_hand": texts(commands),
         "left_behind": [
             {"user": json_text(left.name), "uid": left.uid, "owned": len(left.owned), "named": len(left.named),
-             "first": json_text(outcome.name_of((left.owned or left.named)[0]))}
+             "path": json_text(outcome.name_of((left.owned or left.named)[0]))}
             for left in outcome.left
         ],
         "answers": [

@@ -7,7 +7,7 @@ from typing import Dict, List, Mapping, Optional
 
 from .. import VERSION
 from ..base.messages import Command
-from ..base.names import json_text
+from ..base.names import json_name, json_text
 from ..base.tables import Column, Table, paged, write_table
 from ..model import meta
 from .store import Stored, age_text, place, snapshots_in
@@ -37,15 +37,14 @@ def row_of(stored: Stored, unknown: bytes) -> List[bytes]:
 
 def fields_of(stored: Stored) -> Dict[str, object]:
     files, users = numbers_of(stored)
-    return {"name": json_text(stored.name), "path": json_text(stored.folder), **meta.fields_of(stored.about),
-            "folders": [json_text(it) for it in stored.about.folders], "files": files, "users": users,
+    return {**meta.fields_of(stored.folder, stored.about), "files": files, "users": users,
             "age": stored.age(), "is_whole": not stored.fault, "warnings": [json_text(it) for it in stored.warnings()]}
 
 
 def body(command: Command, given: argparse.Namespace) -> int:
     found = snapshots_in(place())[::-1]
     if given.json:
-        write_object(command, SCHEMA, {"store": json_text(place()), "snapshots": [*map(fields_of, found)]})
+        write_object(command, SCHEMA, {"store": json_name(place()), "snapshots": [*map(fields_of, found)]})
     elif found or given.tsv:
         with paged(command, not given.no_pager):
             write_table(command, given, Table(COLUMNS, [row_of(it, b"" if given.tsv else b"-") for it in found]))

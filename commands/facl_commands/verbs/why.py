@@ -9,7 +9,7 @@ from ..base.messages import Command
 from ..base.names import json_text, path_word, shown
 from ..base.programs import find_program
 from ..base.tables import Column, Table, paged, write_json, write_table
-from ..model import choice, meta, overview, split_tree
+from ..model import choice, overview, split_tree
 from ..model.entries import Entries, entries_of
 from ..model.everybody import world_of
 from ..model.records import asks_as_directory, body_of, name_of, path_of
@@ -111,8 +111,8 @@ def fields_of(reasons: WhyAnswer) -> Dict[str, object]:
 
 def write(command: Command, given: argparse.Namespace, reasons: WhyAnswer) -> None:
     if given.json:
-        about = meta.fields_of(given.stored.about)
-        write_json(command, given, SCHEMA, {"snapshot": about, "along_paths": not given.alone, **fields_of(reasons)})
+        head = choice.head_of(given, given.stored.folder, given.stored.about)
+        write_json(command, given, SCHEMA, {**head, **fields_of(reasons)})
         return
     with paged(command, not given.no_pager):
         write_table(command, given, Table(COLUMNS, [row for step in reasons.steps for row in step.rows()]))

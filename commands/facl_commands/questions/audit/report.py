@@ -10,8 +10,9 @@ from ...base.names import at_or_below, file_name, is_at_or_below, json_text, she
 from ...base.programs import program_words
 from ...base.tables import Column, Paint, Table, fitting_line
 from ...model import sources, split_tree
+from ...model.choice import head_of
 from ...model.everybody import beside
-from ...model.meta import fields_of, meta_of, named
+from ...model.meta import meta_of, named
 from ...model.sources import Source
 from .findings import (
     HIGH, KINDS, LOW, MIDDLE, OF_EVERYBODY, WEIGHTS, Accepted, Findings, FoundFile, KindOfFinding, read_accepted, sort_out,
@@ -140,21 +141,20 @@ def table_of_files(found: List[FoundFile], is_whole: bool) -> Table:
 
 
 def json_of_kind(kind: KindOfFinding, found: List[FoundFile], has_all: bool, is_whole: bool) -> Dict[str, object]:
-    texts = [(shown_path(it.path), it.detail, it.line(is_whole)) for it in (found if has_all else found[:FIRST])]
-    files = [dict(zip(("path", "what", "mend"), map(json_text, its))) for its in texts]
+    texts = [(file_name(it.path, is_whole), it.detail, it.line(is_whole)) for it in (found if has_all else found[:FIRST])]
+    files = [dict(zip(("path", "what", "edit"), map(json_text, its))) for its in texts]
     return {"finding": kind.name, "weight": kind.weight, "meaning": kind.meaning, "count": len(found), "files": files}
 
 
 def json_of(report: AuditReport, only: Optional[str]) -> Dict[str, object]:
     """The report, with all files of one finding where only that is asked for."""
     kinds = [kind for kind in report.kinds() if only in (None, kind.name)]
-    snapshot: Dict[str, object] = {"name": json_text(report.source.shown), **fields_of(report.meta)}
     return {
-        "snapshot": snapshot,
+        **head_of(report.given, report.source.shown, report.meta),
         "folders": [json_text(report.name_of(path)) for path in report.folders],
-        "files": report.files,
+        "count": report.files,
         "findings": [json_of_kind(kind, report.findings[kind.name], only is not None, report.is_whole) for kind in kinds],
         "accepted": report.accepted,
         "unused": [{"line": it.number, "finding": it.kind,
-                    "path": json_text(shown_path(it.path)) if it.path in report.recorded else None} for it in report.unused],
+                    "path": json_text(report.name_of(it.path)) if it.path in report.recorded else None} for it in report.unused],
     }

@@ -93,6 +93,7 @@ def report_of(given: argparse.Namespace, source: Source, program: str) -> CheckR
                                     (lambda path: bool(split_tree.recorded_in(parts, [path]))) if parts else None)
                 rules = reader.read(given.rules)
             files = listing_of(world).files
+            is_whole = sources.find_tops(world.session, world.session.folder) == [b""]
             paths = once.of_part(files) if parts else list(files)
             rights = Rights(world, given.file_alone, files, paths, chosen)
             for rule in rules:
@@ -105,12 +106,12 @@ def report_of(given: argparse.Namespace, source: Source, program: str) -> CheckR
     name = b"standard input" if given.rules == INPUT else os.fsencode(given.rules)
     about = split_tree.meta_of_all(parts) if parts else meta_of(source.folder)
     return CheckReport(source.shown, about, name, [outcomes[rule.number] for rule in rules],
-                       choice.in_order(map(write_user, left_out), passwd), reader.notes, passwd)
+                       choice.in_order(map(write_user, left_out), passwd), reader.notes, passwd, is_whole)
 
 
 def write(command: Command, given: argparse.Namespace, report: CheckReport) -> None:
     if given.json:
-        write_json(command, given, SCHEMA, json_of(report))
+        write_json(command, given, SCHEMA, json_of(given, report))
     elif given.tsv:
         write_table(command, given, table_of(report))
     elif report.broken() or not given.quiet:

@@ -1,14 +1,16 @@
 """What facl-check prints: the rules that do not hold, for whom, on which files and by which entries."""
 from __future__ import annotations
 
+import argparse
 from typing import Dict, Iterator, List, NamedTuple
 
 from ...base.messages import counted
-from ...base.names import json_text, shown_path
+from ...base.names import file_name, json_text, shown_path
 from ...base.tables import Column, Paint, Table, fitting_line
+from ...model.choice import head_of
 from ...model.entries import Entry
 from ...model.everybody import SHOWN, beside
-from ...model.meta import Meta, fields_of, named
+from ...model.meta import Meta, named
 from .answers import Block, RuleOutcome, Violation
 from .rules import ALWAYS
 
@@ -25,6 +27,7 @@ class CheckReport(NamedTuple):
     left_out: List[bytes]  # Users who are no people, and may what rules give to others only; as printed.
     notes: List[bytes]  # On groups of whom nobody is checked.
     passwd: bytes  # The users of the snapshot.
+    is_whole: bool  # Whether paths start at the root of the file system.
 
     def broken(self) -> List[RuleOutcome]:
         """The rules that do not hold."""
@@ -91,18 +94,17 @@ def table_of(report: CheckReport) -> Table:
     return Table(columns, rows)
 
 
-def json_of_violation(found: Violation) -> Dict[str, object]:
-    blocks = [{"path": json_text(shown_path(it.path)), "entries": [json_text(entry_text(entry)) for entry in it.entries]}
+def json_of_violation(found: Violation, is_whole: bool) -> Dict[str, object]:
+    blocks = [{"path": json_text(file_name(it.path, is_whole)), "entries": [json_text(entry_text(entry)) for entry in it.entries]}
               for it in found.blocks]
     return {"user": json_text(found.user), "count": len(found.paths),
-            "files": [json_text(shown_path(path)) for path in found.paths[:FIRST]], "entries": blocks,
+            "paths": [json_text(file_name(path, is_whole)) for path in found.paths[:FIRST]], "entries": blocks,
             "who_else": list(map(json_text, found.others))}
 
 
-def json_of(report: CheckReport) -> Dict[str, object]:
-    snapshot: Dict[str, object] = {"name": json_text(report.snapshot), **fields_of(report.meta)}
-    rules = [{"line": it.rule.number, "rule": json_text(it.rule.text()), "files": it.files,
-              "holds": not it.violations, "violations": [json_of_violation(found) for found in it.violations]}
+def json_of(given: argparse.Namespace, report: CheckReport) -> Dict[str, object]:
+    rules = [{"line": it.rule.number, "rule": json_text(it.rule.text()), "count": it.files,
+              "holds": not it.violations, "violations": [json_of_violation(found, report.is_whole) for found in it.violations]}
              for it in report.outcomes]
-    return {"snapshot": snapshot, "rules": rules, "broken": len(report.broken()),
+    return {**head_of(given, report.snapshot, report.meta), "rules": rules, "broken": len(report.broken()),
             "left_out": [json_text(name) for name in report.left_out]}

@@ -139,7 +139,7 @@ class Comparison:
         reasons.moved_to = {it.old: it.new for it in moved}
         left_out = list(dict.fromkeys(it.user for it in answered.gains if it.user not in place))
         everybody = AllUsers((old, new), set(chosen), self.everybody)
-        return Compared(old, new, self.folders, self.is_alone, self.is_whole, answered.by,
+        return Compared(old, new, self.folders, self.is_whole, answered.by,
                         rows_of(gains, reasons.of, everybody), everybody, left_out, counts_of(counted),
                         people_counts(members_of(old.people()), members_of(new.people())), moved)
 
@@ -245,7 +245,7 @@ def compare(command: Command, given: argparse.Namespace) -> Tuple[Compared, Opti
 
 def write(command: Command, given: argparse.Namespace, compared: Compared) -> None:
     if given.json:
-        tables.write_json(command, given, report.SCHEMA, report.object_of(compared))
+        tables.write_json(command, given, report.SCHEMA, report.object_of(given, compared))
         return
     if given.tsv:
         tables.write_table(command, given, report.fields_table(compared))

@@ -1,10 +1,12 @@
 """What facl-diff prints: a table for a person, rows for a script, or one object."""
 from __future__ import annotations
 
+import argparse
 from typing import Callable, Dict, Iterator, List, NamedTuple, Sequence, Tuple
 
 from ...base.names import file_name, is_at_or_below, json_text, write_user
 from ...base.tables import Column, Table
+from ...model.choice import head_of
 from ...model.everybody import SHOWN, beside
 from ...model.meta import EXCLUDED, PART, UNREAD, Meta, fields_of
 from ...model.records import path_of
@@ -24,7 +26,6 @@ class Compared(NamedTuple):
     old: State
     new: State
     folders: List[bytes]  # Those that are looked at; none where all files are.
-    is_alone: bool
     is_whole: bool  # Whether paths start at the root of the file system.
     by: str  # What the changes are from: `gains` of a session, or `index`.
     rows: List[ChangeRow]
@@ -110,21 +111,17 @@ def texts(names: Sequence[bytes], write: Callable[[bytes], bytes] = bytes) -> Li
     return [json_text(write(name)) for name in names]
 
 
-def snapshot_json(state: State) -> Dict[str, object]:
-    return {"snapshot": json_text(state.folder), **fields_of(state.about)}
-
-
 def row_json(compared: Compared, row: ChangeRow) -> Dict[str, object]:
-    return {"before": row.old, "after": row.new, "users": texts(shown_users(compared, row)), "files": row.files,
-            "first": json_text(compared.first_of(row)), "why": json_text(row.why) or None}
+    return {"before": row.old, "after": row.new, "users": texts(shown_users(compared, row)), "count": row.files,
+            "path": json_text(compared.first_of(row)), "why": json_text(row.why) or None}
 
 
-def object_of(compared: Compared) -> Dict[str, object]:
-    """The object of --json, whose schema is in the manual page."""
+def object_of(given: argparse.Namespace, compared: Compared) -> Dict[str, object]:
+    """The object of --json: its snapshot is the later one."""
     people = compared.people
     return {
-        "before": snapshot_json(compared.old), "after": snapshot_json(compared.new),
-        "folders": texts(compared.folders, compared.name_of), "along_paths": not compared.is_alone,
+        **head_of(given, compared.new.folder, compared.new.about), "before": fields_of(compared.old.folder, compared.old.about),
+        "folders": texts(compared.folders, compared.name_of),
         "answered_by": compared.by,
         "changes": [row_json(compared, row) for row in compared.rows],
         "left_out": texts(compared.left_out),

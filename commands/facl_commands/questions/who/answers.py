@@ -53,7 +53,7 @@ def of_rights(asker: Asker, rights: List[Right], folders: List[bytes]) -> WhoAns
             files, first = known.get(user, (0, b""))
             pair = user, first
             row += [b"%d" % files, asker.name_of(first) if files else b"", reasons.text(pair, right) if files else b""]
-            its += [{"right": right.word, "files": files, "first": json_text(asker.name_of(first)),
+            its += [{"right": right.word, "count": files, "path": json_text(asker.name_of(first)),
                      "by": [json_text(plain_entry(entry)) for entry in reasons.granting(pair, right)]}] if files else []
         rows.append(row)
         objects.append({"user": json_text(row[0]), "rights": its})
@@ -92,7 +92,7 @@ def files_of_user(asker: Asker, question: str, user: NamedUser, folders: List[by
             if entries:
                 file = asker.name_of(path_of(name))
                 rows += [[file, entry] for entry in entries]
-                files.append({"file": json_text(file), "entries": list(map(json_text, entries))})
+                files.append({"path": json_text(file), "entries": list(map(json_text, entries))})
     return WhoAnswer(question, Table([Column("FILE"), Column("ENTRY")], rows),
                      {"user": json_text(user.shown), "uid": user.uid, "files": files},
                      user.shown + verb + asker.spoken(folders))
@@ -179,9 +179,9 @@ def of_user(asker: Asker, user: NamedUser, folders: List[bytes]) -> WhoAnswer:
         for path, here in zip(paths, ask_here(asker, word, paths)):
             numbers = {right: its[path] for right, its in counts.items()}
             most = next(it for it in HIGHEST_FIRST if numbers[it])  # On a file at or below the folder.
-            numbers["files"] = found.files[path]
+            numbers["count"] = found.files[path]
             rows.append([asker.name_of(path), here.encode(), most.encode(), *(b"%d" % it for it in numbers.values())])
-            objects.append({"folder": json_text(rows[-1][0]), "here": here, "highest": most, **numbers})
+            objects.append({"path": json_text(rows[-1][0]), "here": here, "highest": most, **numbers})
     return WhoAnswer(
         "user", Table(COLUMNS, rows), {"user": json_text(name), "depth": asker.given.depth, "folders": objects},
         name + b" may read, write and enter nothing " + asker.spoken(folders), after=tuple(asker.beside([name])))

@@ -140,21 +140,21 @@ def answer_of(asker: Asker) -> WhoAnswer:
     return answers.of_rights(asker, read_rights(given.perms), folders)
 
 
-def object_of(asker: Asker, answer: WhoAnswer) -> Dict[str, object]:
+def object_of(asker: Asker, source: Source, answer: WhoAnswer) -> Dict[str, object]:
     """With what Linux looks at beside lists: the marks of files that a person names, and how many were left out."""
-    marked = [{"file": json_text(asker.name_of(path)), "marks": list(map(json_text, asker.marks.of(path)))}
+    marked = [{"path": json_text(asker.name_of(path)), "marks": list(map(json_text, asker.marks.of(path)))}
               for path in asker.named]
     left_out = {} if asker.unwritable is None else asker.unwritable.numbers
-    return {"snapshot": meta.fields_of(meta.meta_of(asker.session.folder)), "question": answer.question,
-            "along_paths": not asker.given.file_alone, **answer.fields, "left_out": list(map(json_text, answer.left_out)),
+    return {**choice.head_of(asker.given, source.shown, meta.meta_of(asker.session.folder)), "question": answer.question,
+            **answer.fields, "left_out": list(map(json_text, answer.left_out)),
             "marked": [it for it in marked if it["marks"]],
             "unwritable": {json_text(kind): number for kind, number in left_out.items() if number}}
 
 
-def write_answer(command: Command, asker: Asker, answer: WhoAnswer) -> None:
+def write_answer(command: Command, asker: Asker, source: Source, answer: WhoAnswer) -> None:
     given = asker.given
     if given.json:
-        tables.write_json(command, given, SCHEMA, object_of(asker, answer))
+        tables.write_json(command, given, SCHEMA, object_of(asker, source, answer))
         return
     if given.tsv or answer.table.rows:
         tables.write_table(command, given, answer.table)
@@ -192,7 +192,7 @@ def body(command: Command, words: List[str]) -> int:
             asker = Asker(world, given)
             answer = answer_of(asker)
             with tables.paged(command, not given.no_pager):
-                write_answer(command, asker, answer)
+                write_answer(command, asker, source, answer)
         for note in () if given.json else notes(asker, answer):
             command.say(note)
         if given.user is not None and not given.with_root and asker.anybody(os.fsencode(given.user)).uid == SUPERUSER:

@@ -53,7 +53,7 @@ def answer_remove(asker: Asker, path: bytes) -> WhoAnswer:
     notes += asker.beside(row[0] for row in rows)
     return WhoAnswer(
         "remove", Table([Column("USER"), Column("BY"), *[Column("AS")] * is_kept], rows),
-        {"file": json_text(name), "sticky": is_kept, "empty": not is_full, "since": json_text(why or b"") or None,
+        {"path": json_text(name), "sticky": is_kept, "empty": not is_full, "since": json_text(why or b"") or None,
          "users": [{"user": json_text(asker.shown(user)), "as": json_text(users[user]) or None,
                     "by": [json_text(plain_entry(it)) for it in reasons.granting((user, above), CHANGE)]} for user in kept]},
         b"nobody may remove " + name + since(why), [it for it in users if it not in kept], tuple(notes))
@@ -117,6 +117,6 @@ def answer_new_file(asker: Asker, folder: bytes, user: NamedUser) -> WhoAnswer:
     notes = [it.summary for it in made] + asker.beside(user for it in made for user in it.users)
     return WhoAnswer(
         "new-file", Table([Column("NEW"), Column("LIST")], rows),
-        {"folder": json_text(name), "user": json_text(user.shown), "since": json_text(why or b"") or None,
+        {"path": json_text(name), "user": json_text(user.shown), "since": json_text(why or b"") or None,
          "new": [it.fields for it in made]},
         user.shown + b" may make no file in " + name + since(why), left_out, (origin, *notes))
