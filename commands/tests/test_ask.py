@@ -396,13 +396,14 @@ class Prompts(unittest.TestCase):
     """What is printed for lines, without a terminal."""
 
     noted = [ALONE]  # What was said once before.
+    is_along = False
     without: Dict[bytes, int] = {}  # Of whom those of id 0 are left out.
 
     def prompt(self) -> Prompt:
         self.printed: List[bytes] = []
         known = completer()
         prompt = Prompt(lambda: Session(LINUX.find(), SHARE), known, self.printed.append,
-                        lambda line: b"~" + line, Superusers(self.without))
+                        lambda line: b"~" + line, Superusers(self.without), is_along=self.is_along)
         prompt.noted.update(self.noted)
         self.addCleanup(prompt.close)
         return prompt
@@ -529,6 +530,33 @@ class Prompts(unittest.TestCase):
         texts = overview.LoadedTexts(b"x", b"", b"", b"", b"/srv/n\\033\\012x\n/srv/two\n\n")
         self.assertIn(b"2, first: /srv/n\x1b\\012x", next(overview.warnings(texts)))  # The command prints ESC as an escape.
 
+    def test_along_paths(self) -> None:
+        """Questions have --reach where the prompt says so; a word changes that, and no edit."""
+        lines = ("who r srv/share/one", "may guest r", "  can mara srv/share/notes", "below r srv/share", "why guest srv/share/one",
+                 "setfacl -m u:guest:r srv/share/one", "setfacl -m u:guest:x srv/share", "'who' 4 -- srv/share/one", "changes", "gains",
+                 "getfacl -c srv/share/one", "who q srv", "who")
+        words = ("who", "may", "can", "below", "why", "'who'", "changes", "gains")
+        with_reach = []
+        for line in lines:
+            tool, _, rest = line.strip().partition(" ")
+            with_reach.append("%s --reach %s" % (tool, rest) if tool in words and rest or tool in ("changes", "gains") else line)
+        alone = self.ask(*lines)
+        wanted = self.ask(*with_reach)
+        self.assertNotEqual(alone, wanted)
+        self.is_along, self.noted = True, []
+        self.assertEqual(self.ask(*lines), wanted)
+        self.assertEqual(self.prompts[:2], ["1 along paths> ", "2 along paths> "])
+        self.assertEqual(self.ask("who r srv/share/one", "alone", "who r srv/share/one", "who r srv", "along", "who r srv/share/one"),
+                         b"ines\nben\nines\nben\n~" + ALONE + b"root\nines\nben\nmara\nguest\nines\nben\n\n")
+        self.assertEqual(self.prompts, ["1 along paths> ", "2 along paths> ", "3> ", "4> ", "5> ", "6 along paths> ", "7 along paths> "])
+        self.assertEqual(self.ask("alone or not", "setfacl -M - srv/share/one", "u:guest:r", ".").count(b"unknown tool"), 1)
+        self.assertEqual(self.prompts[1:4], ["2 along paths> ", "3| ", "4| "])
+
+    def test_a_line_without_room(self) -> None:
+        """It is asked as it is."""
+        self.is_along, self.noted = True, []
+        self.assertEqual(self.ask("who" + " " * 65_528 + "r srv"), b"root\nines\nben\nmara\nguest\n~" + ALONE + b"\n")
+
     def test_help(self) -> None:
         out = self.ask("help")
         for line in (b"    can [--reach] USER FILE\n", b"    gpasswd -d USER GROUP\n", b"\nTopics: description, "):
@@ -613,10 +641,12 @@ class Terminal(Case):
     def session(self, dim: bytes = b"") -> None:
         self.expect_output(b"before: 5 users, 5 groups, ")
         self.expect_output(b"warning: names of files that have another name in the snapshot too (see links): 2")
-        self.expect_output(b"1>")
+        self.expect_output(b"1 along paths>")
+        self.send(b"alone\r")
+        self.expect_output(b"2>")
         self.send(b"who x srv/share/one\r")
         self.expect_output(b"(nobody)\r\n" + dim + b"(each file is judged alone")
-        self.expect_output(b"2>")
+        self.expect_output(b"3>")
 
     @unittest.skipUnless(importlib.util.find_spec("prompt_toolkit"), "prompt_toolkit is not installed")
     def test_prompt_toolkit(self) -> None:
@@ -628,15 +658,15 @@ class Terminal(Case):
         self.expect_output(b"ne\x1b")
         self.send(b"\r")
         self.expect_output(b"-w- r-- rw-\r\n")
-        self.expect_output(b"3>")
+        self.expect_output(b"4>")
         self.send(b"\x1b[A\r")
         self.expect_output(b"rw-\r\n")
-        self.expect_output(b"4>")
-        self.send(b"setfacl -M - srv/share/one\r")
-        self.expect_output(b"5|")
-        self.send(b"\x03")
-        self.expect_output(b"(the text is given up, and line 4 with it)\r\n")
         self.expect_output(b"5>")
+        self.send(b"setfacl -M - srv/share/one\r")
+        self.expect_output(b"6|")
+        self.send(b"\x03")
+        self.expect_output(b"(the text is given up, and line 5 with it)\r\n")
+        self.expect_output(b"6>")
         self.send(b"\x04")
         self.expect_end(0)
         self.assertIn(b"+can ines srv/share/one", self.read(".facl_history"))
@@ -671,9 +701,9 @@ class Terminal(Case):
         self.start({"PYTHONPATH": self.path("none")})
         self.session()
         self.send(b"frob -\r")
-        self.expect_output(b"3|")
+        self.expect_output(b"4|")
         self.send(b"\x03")
-        self.expect_output(b"(the text is given up, and line 2 with it)\r\n")
+        self.expect_output(b"(the text is given up, and line 3 with it)\r\n")
         self.send(b"quit\r")
         self.expect_end(0)
 

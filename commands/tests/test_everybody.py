@@ -85,7 +85,7 @@ class AtThePrompt(unittest.TestCase):
         answers = answers_over(SHARE, texts.passwd, [])
         with session_with(LINUX.find(), SHARE, *answers.everybody.with_both(texts)) as session:
             prompt = Prompt(lambda: session, completer(), printed.append, superusers=Superusers({b"root": 0}), answers=answers,
-                            beside=beside_of(13))
+                            beside=beside_of(13), is_along=False)
             prompt.noted.add(ALONE)
             for line in lines:
                 prompt.number += 1

@@ -177,7 +177,7 @@ class Who(MarkedCase):
             b"USER  WRITE  FIRST WRITE          WRITE BY\n"
             b"ines      3  /srv/project/drafts  group design\n"  # And logo.svg and notes.txt.
             b"ben       1  /srv/project/audit   group audit\n"
-            b"mara      2  /srv/project/drafts  owner\n"), LEFT_OUT + b"2 immutable files, 2 files on read-only file systems (--lists-alone)\n")
+            b"mara      2  /srv/project/drafts  owner\n"), LEFT_OUT + b"2 immutable files, 2 files on read-only file systems; --lists-alone shows them\n")
         alone = self.who("--lists-alone", "write", "project")
         self.mark()
         self.assertEqual(self.who("write", "project"), alone)
@@ -194,7 +194,7 @@ class Who(MarkedCase):
         self.mark_some()
         self.expect(self.who("write", "project", README), 1, (
             b"nobody may write anything at or below /srv/project/README\n/srv/project/README: immutable: nobody can write it\n"),
-            LEFT_OUT + b"1 immutable file (--lists-alone)\n")
+            LEFT_OUT + b"1 immutable file; --lists-alone shows them\n")
         self.assertEqual(self.who("--tsv", "read,write", "project", README).out.splitlines()[1:], [
             b"ines\t1\t/srv/project/README\towner\t0\t\t", b"ben\t1\t/srv/project/README\tgroup staff\t0\t\t",
             b"mara\t1\t/srv/project/README\tgroup staff\t0\t\t"])
@@ -205,7 +205,7 @@ class Who(MarkedCase):
             b"mara      1  /srv/project/drafts/logo.svg  owner\n"
             b"/srv/project/drafts/logo.svg: append-only: nobody can change what it has\n"
             b"/srv/project/drafts/old: read-only file system: nobody can write it\n"),
-            LEFT_OUT + b"2 files on read-only file systems (--lists-alone)\n")
+            LEFT_OUT + b"2 files on read-only file systems; --lists-alone shows them\n")
 
     def test_a_part_of_a_read_only_tree(self) -> None:
         """Read-only are project, README, audit, notes.txt and report."""
@@ -213,8 +213,8 @@ class Who(MarkedCase):
         done = self.who("--tsv", "write", "project")
         self.assertEqual((done.out.splitlines()[1:], done.messages), ([
             b"ines\t2\t/srv/project/drafts\tgroup design", b"mara\t4\t/srv/project/drafts\towner"],
-            LEFT_OUT + b"5 files on read-only file systems (--lists-alone)\n"))
-        self.assertEqual(self.who("write", "project", SRV + "/audit").messages, LEFT_OUT + b"1 file on a read-only file system (--lists-alone)\n")
+            LEFT_OUT + b"5 files on read-only file systems; --lists-alone shows them\n"))
+        self.assertEqual(self.who("write", "project", SRV + "/audit").messages, LEFT_OUT + b"1 file on a read-only file system; --lists-alone shows them\n")
         self.assertEqual(self.who("write", "project", SRV + "/drafts").messages, b"")
 
     def test_one_user(self) -> None:
@@ -224,7 +224,7 @@ class Who(MarkedCase):
             b"/srv/project             r-x   write       7      2      3      9\n"
             b"/srv/project/drafts      rwx   write       4      2      2      4\n"
             b"/srv/project/drafts/old  r-x   read        2      0      1      2\n"),
-            LEFT_OUT + b"2 immutable files, 2 files on read-only file systems (--lists-alone)\n")
+            LEFT_OUT + b"2 immutable files, 2 files on read-only file systems; --lists-alone shows them\n")
 
     def test_removing(self) -> None:
         self.mark_some()

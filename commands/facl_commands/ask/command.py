@@ -34,7 +34,8 @@ Answers questions and edits over a snapshot, by the program facl_linux, or, with
 
 With SCRIPTs it answers their lines; the SCRIPT - is standard input. Without one, at a terminal, it is a prompt:
 `help` lists the tools, tab completes words, each answer comes below its line, and where a line is refused for its
-words, the synopsis and the likely cause. Else it answers standard input.
+words, the synopsis and the likely cause. Questions at the prompt count search permission on parent directories, as
+with --reach in a SCRIPT, unless --file-alone is given. Else it answers standard input.
 
 Where it has one SCRIPT, or standard input that is no terminal, it is the program itself: it prints the same, and ends
 with the same status; below a message about a SCRIPT comes its likely cause. With several SCRIPTs a message names the
@@ -63,6 +64,8 @@ def parse(words: List[str]) -> argparse.Namespace:
     parser.add_argument("--headings", action="store_true", help="print each question of a script above its answer")
     parser.add_argument("--with-root", action="store_true",
                         help="at the prompt, with --each and --hosts: answers about people have uid 0 too")
+    parser.add_argument("--file-alone", action="store_true",
+                        help="at the prompt: judge each file alone, without search permission on its parent directories")
     parser.add_argument("--each", action="store_true", help="answer standard input over several SNAPSHOTs side by side")
     parser.add_argument("--hosts", action="store_true",
                         help="answer standard input over the snapshots of several servers, NAME:DIR")
@@ -233,7 +236,7 @@ def run_prompt(command: Command, program: str, source: Source, given: argparse.N
     answers = answers_over(source.folder, found.passwd, [])
     texts = texts_with(source.folder, *answers.everybody.with_both(SnapshotTexts(found.passwd, found.group)))
     prompt = Prompt(lambda: Session(program, source.folder, texts), completer, out, dim, superusers,
-                    marks_of(source.folder), answers, beside(about))
+                    marks_of(source.folder), answers, beside(about), not given.file_alone)
     with kept_terminal(), contextlib.closing(prompt):
         refuse_early_end(prompt.session)
         out(shown(overview.summary(found, meta.named(source.shown, about))) + b"; `help` lists the tools, control-D ends\n")

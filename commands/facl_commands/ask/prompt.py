@@ -13,18 +13,22 @@ from ..program.hints.hint import explained
 from ..program.protocol import (
     IN_LINE, PROGRAM, UNKNOWN_TOOL, is_refused, lacking_file, lacks_file, message_of,
 )
-from ..program.scripts import LINE_LIMIT, Unit, is_empty, read_units, words_of
+from ..program.scripts import LINE_LIMIT, WORD, Unit, is_empty, read_units, words_of
 from ..program.session import Answer, Session
-from ..program.tools import EMPTY_ANSWERS, MAKERS, QUESTIONS, REACH, REMOVERS, REQUESTS
+from ..program.tools import EMPTY_ANSWERS, MAKERS, OPTIONS, QUESTIONS, REACH, REMOVERS, REQUESTS
 from .completion import Completer
 from .stops import marked
 
 Read = Callable[[str], str]  # Reads a line, after a prompt; raises EOFError and KeyboardInterrupt.
 HELP_WORDS, END_WORDS = (b"help", b"?"), (b"quit", b"exit")
-WORDS_OF_PROMPT = ["help", "quit"]
-ALONE = b"(each file is judged alone: with --reach after the tool, search on the directories above counts too)\n"
+ALONG_PATHS = {b"along": True, b"alone": False}  # Words after which questions count so.
+WORDS_OF_PROMPT = ["along", "alone", "help", "quit"]
+MARK = " along paths"  # In the prompt, where questions count search permission.
+ALONE = b"(each file is judged alone; `along` counts search permission on its parent directories too)\n"
 KEYS = """\
 A line is a tool and its words: `help TOOL` has its options, and `help TOPIC` another section of the manual page.
+Questions count search permission on parent directories while the prompt has `along paths`, as with --reach after the
+tool; after `alone` each file is judged alone, until `along`.
 Tab completes a word. Control-C ends a line, a text or an answer; control-D or `quit` ends the prompt.
 """
 
@@ -35,11 +39,12 @@ class Prompt:
     def __init__(
         self, start: Callable[[], Session], completer: Completer, out: Callable[[bytes], None],
         dim: Callable[[bytes], bytes] = bytes, superusers: Optional[Superusers] = None, marks: Marks = NO_MARKS,
-        answers: Optional[ElseAnswers] = None, beside: Sequence[bytes] = (),
+        answers: Optional[ElseAnswers] = None, beside: Sequence[bytes] = (), is_along: bool = True,
     ) -> None:
         self.start, self.session, self.completer, self.out, self.marks = start, start(), completer, out, marks
         self.superusers = superusers or Superusers({})
         self.answers, self.beside = answers, beside  # Of a session with everybody else; and what is said beside that user.
+        self.is_along = is_along  # Whether questions are judged along paths.
         self.dim = dim  # How a line is written that is beside the answers.
         self.noted: Set[bytes] = set()  # What was said once.
         self.number = 0  # Of the person's last line.
@@ -52,7 +57,7 @@ class Prompt:
         try:
             while True:
                 try:
-                    line = self.next_line(read, "%d> " % (self.number + 1))
+                    line = self.next_line(read, "%d%s> " % (self.number + 1, MARK * self.is_along))
                 except KeyboardInterrupt:
                     self.out(b"(a line is given up; control-D ends the prompt)\n")
                     continue
@@ -79,6 +84,9 @@ class Prompt:
         if words[:1] and words[0] in HELP_WORDS:
             self.help(words[1:])
             return True
+        if len(words) == 1 and words[0] in ALONG_PATHS:
+            self.is_along = ALONG_PATHS[words[0]]
+            return True
         if len(line) <= LINE_LIMIT and is_empty(line):
             return True
         number = self.number
@@ -98,13 +106,14 @@ class Prompt:
 
     def answer(self, unit: Unit) -> None:
         """Answers a line with its text."""
+        asked = along_path(unit) if self.is_along else unit
         try:
-            answer = self.session.ask((unit if self.answers is None else self.answers.asked(unit)).text())
+            answer = self.session.ask((asked if self.answers is None else self.answers.asked(asked)).text())
         except KeyboardInterrupt:
             self.start_again(IN_LINE % unit.number + b"given up, and changed nothing\n")
             return
         try:
-            self.show(unit, answer)
+            self.show(unit, asked, answer)
         except KeyboardInterrupt:
             self.out(b"\n(the rest is not shown)\n")
         if not is_refused(answer.messages) and not unit.is_of(*QUESTIONS):
@@ -120,9 +129,9 @@ class Prompt:
             self.session.ask(lines)
         self.out(message)
 
-    def show(self, unit: Unit, answer: Answer) -> None:
-        """An answer below its line."""
-        count, lines = 0, self.superusers.rest(unit, marked(unit, answer.output.lines(), self.marks))
+    def show(self, unit: Unit, asked: Unit, answer: Answer) -> None:
+        """An answer below its line, which was asked so."""
+        count, lines = 0, self.superusers.rest(asked, marked(asked, answer.output.lines(), self.marks))
         for printed in lines if self.answers is None else self.answers.first(unit.form(), lines):
             self.out(shown(printed) + b"\n")
             count += 1
@@ -132,7 +141,7 @@ class Prompt:
             self.out(IN_LINE % unit.number + shown(message) + b"\n")
             for line in self.advice(unit, message):
                 self.out(b"    " + line + b"\n")
-        if unit.is_of(*REQUESTS) and REACH not in unit.words and not is_refused(answer.messages):
+        if unit.is_of(*REQUESTS) and REACH not in asked.words and not is_refused(answer.messages):
             self.note(ALONE)
         if self.answers is not None and self.answers.was_shown:
             for text in self.beside:
@@ -174,6 +183,16 @@ class Prompt:
             topics = [it for it in page.sections if it not in ("name", "synopsis", "see also", "options")]
             text = KEYS + "\nTools:\n" + synopses + "\nTopics: " + ", ".join(topics) + "\n"
         self.out(text.encode())
+
+
+def along_path(unit: Unit) -> Unit:
+    """The same line with --reach, where its tool takes that, and the line has room for it."""
+    line = unit.lines[0]
+    tool = WORD.search(line)
+    if tool is None or REACH in unit.words or REACH not in OPTIONS.get(unit.tool(), ()) or len(line) + len(REACH) >= LINE_LIMIT:
+        return unit
+    longer = line[: tool.end()] + b" " + REACH + line[tool.end() :]
+    return unit._replace(words=[unit.words[0], REACH, *unit.words[1:]], lines=[longer, *unit.lines[1:]])
 
 
 def refuse_early_end(session: Session) -> None:

@@ -153,7 +153,7 @@ VERBS: Tuple[Verb, ...] = (
     Verb("ask", (Operand("SCRIPT", "a file of questions and edits, or - for standard input; a prompt without it", FILE,
                          "*"),),
          "Answers a script of questions and edits, or asks you for them at a prompt.",
-         (*CHOSEN, "with_root", "headings", "each", "hosts", "timeout"), "ask.command", "-- @snapshots @scripts",
+         (*CHOSEN, "with_root", "alone", "headings", "each", "hosts", "timeout"), "ask.command", "-- @snapshots @scripts",
          prepare=prepare.ask, is_watched=False),
     Verb("daily", (Operand("FOLDER", "a folder that is recorded each day, with its whole name", FILE, "+"),),
          "Records folders and says, or mails, what there is to look at; a timer or cron runs it.",
