@@ -47,9 +47,8 @@ def reasons_of(stored: List[Stored], counts: Dict[str, int]) -> Dict[bytes, List
     return found
 
 
-def remove(command: Command, store: bytes, names: List[bytes]) -> int:
-    """Removes snapshots, the oldest first, while no facl-daily is at work; returns how many are gone."""
-    folder = DailyFolder(store)
+def remove(command: Command, folder: DailyFolder, names: List[bytes]) -> int:
+    """Removes snapshots, the oldest first; returns how many are gone."""
     gone = 0
     for name in names:
         if remove_known(name, folder.descriptor, has_parts=True):
@@ -66,16 +65,18 @@ def body(command: Command, given: argparse.Namespace) -> int:
         raise Failure(b"say what stays, as: facl prune --keep-daily 7 --keep-weekly 4 --keep-monthly 12")
     stored = snapshots_in(place())
     reasons = reasons_of(stored, counts)
+    names = [it.name for it in stored if not reasons[it.name]]
+    # While no facl-daily is at work; before anything is said of what goes.
+    folder = DailyFolder(place()) if names and not given.dry_run else None
     for it in stored:
         why = reasons[it.name]
         command.tell(b"keep    " + it.name + b"  " + b", ".join(why) if why else b"remove  " + it.name)
-    names = [it.name for it in stored if not reasons[it.name]]
     if not names:
         command.tell(b"nothing to remove")
         return NOTHING
-    if given.dry_run:
+    if folder is None:
         command.tell(b"would remove " + counted(len(names), "snapshot"))
         return DONE
     command.flush()
-    command.tell(b"removed " + counted(remove(command, place(), names), "snapshot"))
+    command.tell(b"removed " + counted(remove(command, folder, names), "snapshot"))
     return DONE

@@ -7,7 +7,7 @@ from typing import Dict, List, Mapping, Optional
 
 from .. import VERSION
 from ..base.messages import Command
-from ..base.names import json_name, json_text
+from ..base.names import json_name, json_text, write_name
 from ..base.tables import Column, Table, paged, write_table
 from ..model import meta
 from .store import Stored, age_text, place, snapshots_in
@@ -31,7 +31,7 @@ def numbers_of(stored: Stored) -> List[Optional[int]]:
 def row_of(stored: Stored, unknown: bytes) -> List[bytes]:
     about, age = stored.about, stored.age()
     numbers = (unknown if it is None else b"%d" % it for it in numbers_of(stored))
-    return [stored.name, about.host or unknown, b" ".join(about.folders) or unknown, *numbers,
+    return [write_name(stored.name), about.host or unknown, b" ".join(about.folders) or unknown, *numbers,
             unknown if age is None else age_text(age), b"; ".join(stored.warnings())]
 
 

@@ -13,6 +13,7 @@ import time
 from typing import Iterator, List, NamedTuple, Optional
 
 from ..base import folders, new_file, trusted
+from ..base.attempts import held
 from ..base.messages import Failure, counted, reason
 from ..base.names import is_at_or_below, live_name, read_path
 from ..model import choice, meta, split_tree
@@ -97,26 +98,22 @@ def place() -> bytes:
 def made_place() -> bytes:
     """The same, which is made where it is not there; fails where somebody else could write there."""
     name = place()
-    if not os.path.lexists(name):
-        above, last = os.path.split(name)
-        make_above(above)
-        parent = trusted.open_folder(above)
-        os.close(new_file.make_directory(last, parent))
-        os.close(parent)
-    descriptor = trusted.open_folder(name)
-    look = os.fstat(descriptor)
-    os.close(descriptor)
+    with held(opened(name)) as descriptor:
+        look = os.fstat(descriptor)
     if look.st_uid != os.geteuid() or look.st_mode & 0o022:
         raise Failure(name + b": has to belong to you, and nobody else may write there: chmod 700 it, or name another "
                       b"store with $" + STORE)
     return name
 
 
-def make_above(name: bytes) -> None:
-    """Makes a folder and those above it that are not there, for the caller alone."""
-    if not os.path.lexists(name):
-        make_above(os.path.dirname(name))
-        os.mkdir(name, 0o700)
+def opened(name: bytes) -> int:
+    """Opens a folder. It is made for the caller alone where it is not there, and so are those above it; nothing is made where
+    somebody else could exchange it."""
+    if os.path.lexists(name):
+        return trusted.open_folder(name)
+    above, last = os.path.split(name)
+    with held(opened(above)) as parent:
+        return new_file.make_directory(last, parent)
 
 
 def new_name(store: bytes) -> bytes:
@@ -152,6 +149,9 @@ def fault_of(folder: folders.Folder) -> bytes:
     lacking = [it for it in folders.TEXTS if not folder.has(it)]
     if lacking:
         return b"incomplete snapshot: it lacks " + b", ".join(lacking)
+    odd = [name for name, file in folder.files.items() if not stat.S_ISREG(os.fstat(file.descriptor).st_mode)]
+    if odd:
+        return b"incomplete snapshot: not a regular file: " + b", ".join(odd)
     return next(iter(folder.faults.values()), b"")
 
 
