@@ -16,7 +16,7 @@ usage: tools/bench.py MEASUREMENT PROGRAM [FOLDER] [--files N,..] [--users N] [-
   real     the program beside getfacl(1), setfacl(1), chmod(1), touch(1) and rm(1) on one tree, whose real files are
            made in FOLDER, which has to take lists (100000 files, 100 users, 3 runs)
   live     as root, facl-snapshot, facl-plan and facl-apply beside getfacl and setfacl on a tree that is made in FOLDER
-           (100000 files, 30 users, 3 runs)
+           (100000 files, 30 users, 3 runs); with --clone OTHER also those of another clone, in turn
   snapshot as root, facl-snapshot beside getfacl on trees of several sizes (300000,1000000 files, 30 users, 3 runs), of which
            one of 1,000,000 files takes some 1.5 GB where FOLDER is of tmpfs
   tree     commands at the tree and the people alone, below the index and the tools, by a program of its own
@@ -27,11 +27,10 @@ With --beside, tools, index and limits measure another program in turn with the 
 that it does not have, and have columns of its figures and of the ratios: how many times as much the first one takes.
 
 FOLDER is that of temporary files if it is left out; what is made in it is removed. Times are processor time, the best
-of the runs, as the most memory is the least; those of `live` and `snapshot` are by the clock, the median of the runs, and
-`snapshot` has processor time beside them. Standard error
-has how busy the machine is. What is aimed at is for 1,000,000 files and 1,000 users. FILES are from 102 on, USERS from
-10 on. The exit status is 1 where the program refuses a line or another command fails, 2 where the words are others, a
-tool is not installed, or `live` or `snapshot` is not run as root.
+of the runs, as the most memory is the least; those of `live` and `snapshot` are the medians of the runs, with the time by the
+clock beside them. Standard error has how busy the machine is. What is aimed at is for 1,000,000 files and 1,000 users.
+FILES are from 102 on, USERS from 10 on. The exit status is 1 where the program refuses a line or another command fails, 2 where
+the words are others, a tool is not installed, or `live` or `snapshot` is not run as root.
 """
 from __future__ import annotations
 
@@ -42,19 +41,19 @@ import shutil
 import statistics
 import subprocess
 import tempfile
-import time
 from pathlib import Path
-from typing import Callable, Dict, Iterable, List, Mapping, NamedTuple, Optional, Sequence, Tuple, Union
+from typing import Callable, Dict, Iterable, List, Mapping, NamedTuple, Optional, Tuple, Union
 
-from benches import commands, grow
+from benches import commands, grow, live, real
 from benches.sessions import (
-    LOAD, LOAD_BYTES, MAX_RESTORED, OF_INDEX, OF_LIMITS, OF_LOAD, OF_TOOLS, WHO, Figures, NumberOf, Step, Tree,
-    print_table, session_times, steps_of, write_labels,
+    LOAD, LOAD_BYTES, OF_INDEX, OF_LIMITS, OF_LOAD, OF_TOOLS, WHO, Figures, NumberOf, Step, Tree, print_table, session_times,
+    steps_of, write_labels,
 )
+from benches.spending import spent
 from lib.kit import make_room
-from lib.script import TOP, WITH_PEOPLE, Failed, run, say
-from lib.session import MeasuredSession, best_of, first_records, program_at
-from lib.texts import attribute, PER_DIRECTORY, write_tree
+from lib.script import TOP, Failed, run, say
+from lib.session import best_of, program_at
+from lib.texts import PER_DIRECTORY, write_tree
 
 Words = argparse.Namespace
 BESIDE = ("tools", "index", "limits")  # What measures another program too.
@@ -127,197 +126,6 @@ def measure_limits(given: Words) -> int:
     return 0
 
 
-# Other commands.
-
-class Spent(NamedTuple):
-    """What a command took: seconds of the processor and by the clock, and bytes of the largest of its processes."""
-
-    processor: float
-    seconds: float
-    memory: int
-
-
-def spent(words: List[str], folder: str, output: str = os.devnull, most_status: int = 0, **variables: str) -> Spent:
-    """Runs a command in a folder; it has to end with the status 0, or with one up to another."""
-    started = time.perf_counter()
-    with open(output, "wb") as out, tempfile.TemporaryFile() as messages:
-        child = subprocess.Popen(words, cwd=folder, env={**os.environ, **variables}, stdout=out, stderr=messages)
-        try:
-            _, status, usage = os.wait4(child.pid, 0)
-        except BaseException:
-            child.kill()
-            child.wait()
-            raise
-        seconds = time.perf_counter() - started
-        child.returncode = os.waitstatus_to_exitcode(status)
-        messages.seek(0)
-        text = messages.read(2_000).decode(errors="replace").strip()
-    if not 0 <= child.returncode <= most_status:
-        raise Failed(f"{' '.join(words[:4])}: status {child.returncode}: {text}")
-    return Spent(usage.ru_utime + usage.ru_stime, seconds, usage.ru_maxrss * 1024)
-
-
-# The program beside the real tools, by the same lines but one: a call over all files, or a call a file.
-OVER_ALL = ("getfacl -R -n", "chmod -R 750", "setfacl -R -m u:1001:rX")
-# `touch` is beside `creat`.
-EACH = {"setfacl -m u:1001:rwx": "", "chmod 640": "", "touch": "creat --user=u1 --mode=640", "rm": ""}
-RESTORE = "setfacl --restore"
-AIMS_OF_REAL = {"setfacl -R -m u:1001:rX": "6 times", RESTORE: "8 times", "load": "2.5 us"}
-
-
-def make_files(folder: str) -> None:
-    """The real files of a dump, and the dump with ids, since the system knows no such users, and without owners, whom
-    only root may set."""
-    os.mkdir(f"{folder}/tree")
-    with open(f"{folder}/dump", encoding="utf-8") as dump, open(f"{folder}/restored", "w", encoding="utf-8") as out:
-        for line in dump:
-            path = line[len("# file: ") : -1] if line.startswith("# file: ") else ""
-            if path.endswith("/"):
-                os.mkdir(f"{folder}/tree/{path}")
-            elif path not in ("", "."):
-                open(f"{folder}/tree/{path}", "wb").close()
-            if not line.startswith(("# owner: ", "# group: ")):
-                out.write(re.sub(r"(user|group):[ug](\d+):", lambda it: f"{it[1]}:{1000 + int(it[2])}:", line))
-
-
-def operands(tree: Tree, line: str) -> List[str]:
-    """The files that the calls of a line name, in path order; `touch` and `rm` name new ones."""
-    return [f"{it}.{k}" if line in ("touch", "rm") else it for k, it in enumerate(sorted(tree.some()))]
-
-
-def real_times(tree: Tree) -> Figures:
-    """What the real tools take, a file."""
-    top = f"{tree.folder}/tree"
-    found = {line: spent([*line.split(), "."], top).processor / tree.files for line in OVER_ALL}
-    found[RESTORE] = spent(["setfacl", "--restore=../restored"], top).processor / tree.files
-    for line in EACH:
-        found[line] = sum(spent([*line.split(), it], top).processor for it in operands(tree, line)) / tree.named
-    return found
-
-
-def our_times(program: str, tree: Tree) -> Figures:
-    """The same of the program, and what a load takes, a file."""
-    records = min(tree.files, MAX_RESTORED)
-    with MeasuredSession(program, tree.folder) as session:
-        found = {"load": session.load / tree.files}
-        found.update({line: session.answer([line + " ."]) / tree.files for line in OVER_ALL})
-        found[RESTORE] = session.answer(["setfacl --restore=-", *first_records(tree.folder, records), "."]) / records
-        for line, ours in EACH.items():
-            found[line] = session.answer([f"{ours or line} {it}" for it in operands(tree, line)]) / tree.named
-        session.end()
-    return found
-
-
-def measure_real(given: Words) -> int:
-    with tempfile.TemporaryDirectory(prefix="facl-bench.", dir=given.folder) as folder:
-        tree = Tree(folder, given.files[-1], given.users, 1_000, 0)
-        write_tree(folder, tree.files, tree.users)
-        make_files(folder)
-        ours = best_of([our_times(given.program, tree) for _ in range(given.runs)])
-        real = best_of([real_times(tree) for _ in range(given.runs)])
-    quicker = {line: f"{seconds / ours[line]:.1f}" for line, seconds in real.items()}
-    print_table(f"{tree.files:,} files, {tree.users:,} users, a file", {
-        "real tool": real, "the program": ours, "times quicker": quicker, "aimed at": AIMS_OF_REAL})
-    return 0
-
-
-# The commands for live systems.
-
-FIRST_ID = 70_000  # Of the users, each of whom has a group of the same id, and of guest, who is the first.
-MODES = (0o600, 0o640, 0o644, 0o755)
-SYSTEM_TOOLS = ("getfacl -R -n", "setfacl --restore")
-OF_SNAPSHOT = ("getfacl -R -n", "facl-snapshot")
-
-
-def write_live_people(folder: str, users: int) -> None:
-    """Users and groups, of whom no account is made."""
-    names, ids = ["guest", *(f"u{k}" for k in range(1, users))], [f"{FIRST_ID + k}" for k in range(users)]
-    texts = {"passwd": "".join(f"{name}:x:{it}:{it}::/:/bin/sh\n" for name, it in zip(names, ids)),
-             "group": "".join(f"g{k}:x:{it}:{names[k // 2]}\n" for k, it in enumerate(ids)),
-             "edits": f"setfacl -R -m u:guest:rX {folder}/srv\n"}
-    for name, text in texts.items():
-        with open(f"{folder}/{name}", "w", encoding="utf-8") as out:
-            out.write(text)
-
-
-def make_live_tree(folder: str, files: int, users: int) -> None:
-    """Directories of a thousand files, which are of all users but guest; every tenth file has a named user."""
-    os.mkdir(f"{folder}/srv", 0o755)
-    for number in range(files):
-        directory, place = divmod(number, 1_000)
-        if place == 0:
-            os.mkdir(f"{folder}/srv/d{directory:04}", 0o755)
-        name = f"{folder}/srv/d{directory:04}/file{place:03}"
-        os.close(os.open(name, os.O_CREAT | os.O_EXCL | os.O_WRONLY, 0o600))
-        owner = FIRST_ID + 1 + number % (users - 1)
-        os.chown(name, owner, owner)
-        os.chmod(name, MODES[number % len(MODES)])
-        if number % 10 == 0:
-            named = attribute(5, FIRST_ID + 1 + number // 10 % (users - 1))
-            os.setxattr(name, "system.posix_acl_access", bytes.fromhex(named))
-
-
-def live_steps(folder: str, number: int) -> Dict[str, List[str]]:
-    """The steps of a run, in their order."""
-    plan = f"plan{number}"
-    return {
-        "getfacl -R -n": ["getfacl", "-R", "-n", "-p", f"{folder}/srv"],
-        "setfacl --restore": ["setfacl", "--restore=records"],
-        "facl-snapshot": [WITH_PEOPLE, folder, "facl-snapshot", "before", f"{folder}/srv"],
-        "facl-plan": ["facl-plan", "--plan", plan, "before", "edits"],
-        "facl-plan --file-alone": ["facl-plan", "--file-alone", "--plan", plan + ".alone", "before", "edits"],
-        "facl-apply": ["facl-apply", plan],
-        "facl-apply --undo": ["facl-apply", "--undo", plan],
-    }
-
-
-def run_steps(given: Words, folder: str, number: int, names: Sequence[str] = ()) -> Dict[str, Spent]:
-    """Runs the steps of these names, or all of them."""
-    path = f"{folder}:{os.path.join(TOP, 'commands')}:{os.environ['PATH']}"
-    found = {}
-    for name, words in live_steps(folder, number).items():
-        if names and name not in names:
-            continue
-        output = f"{folder}/records" if name == SYSTEM_TOOLS[0] else os.devnull
-        found[name] = spent(words, folder, output, PATH=path, FACL=given.program, FACL_LINUX=given.program)
-        say(f"run {number}: {name}: {found[name].seconds:.2f} s")
-    return found
-
-
-def measure_live(given: Words) -> int:
-    with tempfile.TemporaryDirectory(prefix="facl-bench.", dir=given.folder) as folder:
-        os.chmod(folder, 0o755)
-        write_live_people(folder, given.users)
-        make_live_tree(folder, given.files[-1], given.users)
-        say(f"{given.files[-1]:,} files are made")
-        runs = [run_steps(given, folder, number) for number in range(given.runs)]
-    seconds = {name: statistics.median(found[name].seconds for found in runs) for name in runs[0]}
-    both = sum(seconds[name] for name in SYSTEM_TOOLS)
-    most = {name: f"{max(found[name].memory for found in runs) / (1 << 20):,.0f}" for name in runs[0]}
-    print_table(f"{given.files[-1]:,} files, {given.users} users", {
-        "seconds": {name: f"{it:.2f}" for name, it in seconds.items()},
-        "times the system's tools": {name: f"{it / both:.1f}" for name, it in seconds.items()}, "MiB": most})
-    return 0
-
-
-def measure_snapshot(given: Words) -> int:
-    columns: Dict[str, Dict[str, str]] = {}
-    for files in given.files:
-        with tempfile.TemporaryDirectory(prefix="facl-bench.", dir=given.folder) as folder:
-            os.chmod(folder, 0o755)
-            write_live_people(folder, given.users)
-            make_live_tree(folder, files, given.users)
-            say(f"{files:,} files are made")
-            runs = [run_steps(given, folder, number, OF_SNAPSHOT) for number in range(given.runs)]
-        found = {name: [run[name] for run in runs] for name in OF_SNAPSHOT}
-        title = f"{files:,} files: "
-        columns[title + "seconds"] = {name: f"{statistics.median(it.seconds for it in its):.2f}" for name, its in found.items()}
-        columns[title + "processor"] = {name: f"{statistics.median(it.processor for it in its):.2f}" for name, its in found.items()}
-        columns[title + "MiB"] = {name: f"{max(it.memory for it in its) / (1 << 20):,.0f}" for name, its in found.items()}
-    print_table(f"{given.users} users", columns)
-    return 0
-
-
 # The tree and the people alone.
 
 TREE_BENCH = "tree_bench"
@@ -365,6 +173,18 @@ def measure_commands(given: Words) -> int:
 
 def measure_grow(given: Words) -> int:
     return grow.measure(given.program, given.runs, given.only)
+
+
+def measure_real(given: Words) -> int:
+    return real.measure(given.program, given.folder, given.files[-1], given.users, given.runs)
+
+
+def measure_live(given: Words) -> int:
+    return live.measure(given.program, given.folder, given.files[-1], given.users, given.runs, given.clone)
+
+
+def measure_snapshot(given: Words) -> int:
+    return live.measure_snapshot(given.program, given.folder, given.files, given.users, given.runs)
 
 
 class Measurement(NamedTuple):
@@ -416,7 +236,7 @@ def words() -> Words:
             (len(given.files) > 1 and kind not in ("tools", "snapshot"), "several FILES are of `tools` and `snapshot` alone"),
             (given.beside and kind not in BESIDE, "--beside is of tools, index and limits"),
             (kind != "grow" and given.only, "--only is of `grow`"),
-            (kind != "commands" and given.clone, "--clone is of `commands`"),
+            (kind not in ("commands", "live") and given.clone, "--clone is of `commands` and `live`"),
             (not {*given.only} <= {grown.name for grown in grow.RANGES},
              f"RANGE is one of {', '.join(grown.name for grown in grow.RANGES)}")):
         if is_so:

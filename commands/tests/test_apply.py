@@ -19,11 +19,12 @@ from typing import Any, Callable, Dict, List, Set
 from common import COMMANDS, Case, Done
 from real import RealCase
 
-from facl_commands.apply import carrying, changing, direction  # noqa: E402
+from facl_commands.apply import carrying, changing, direction, survey  # noqa: E402
 from facl_commands.apply import command as apply  # noqa: E402
 from facl_commands.base import acl_bytes, live  # noqa: E402
+from facl_commands.base.linux import Identity  # noqa: E402
 from facl_commands.base.messages import SIGNALS, Failure  # noqa: E402
-from facl_commands.planned import by_hand_done, differences, plan_files, plan_folder  # noqa: E402
+from facl_commands.planned import by_hand, differences, plan_files, plan_folder  # noqa: E402
 from facl_commands.planned.plan_folder import PlanFolder  # noqa: E402
 
 
@@ -193,6 +194,23 @@ class Plans(Case):
                 self.read_or_fail(plan_files.read_journal, it)
         self.assertEqual(list(plan_files.read_work(b"files", text.encode()).files), [it[0].encode() for it in fields["files"]])
 
+    def test_the_journal_is_json(self) -> None:
+        several: List[Dict[bytes, Identity]] = [{}, {
+            b"": Identity(1, 2, 3), b"a": Identity(0, 1 << 63, -7), b'a/\xe9 "x\\\n\x00,': Identity(9, 8, 7)}]
+        for files in several:
+            text = plan_files.journal_text("boot", files)
+            rows = [[path.decode("latin-1"), *its] for path, its in files.items()]
+            self.assertEqual(text, json.dumps({"boot": "boot", "files": rows}, separators=(",", ":")).encode() + b"\n")
+            self.assertEqual(plan_files.read_journal(b"journal", text), plan_files.Journal("boot", files))
+
+    def test_paths_of_a_plan(self) -> None:
+        """In path order, each once, and without components that are empty or lead elsewhere."""
+        several: List[List[bytes]] = [[], [b""], [b"a"], [b"", b"a", b"a/b", b"a-b"], [b"\n", b"..a/.b/c."]]
+        self.assertTrue(all(map(plan_files.are_in_order, several)))
+        for path in (b"/a", b"a/", b"a//b", b".", b"..", b"a/./b", b"a/..", b"\0", b"a\0b"):
+            self.assertFalse(plan_files.is_path(path) or plan_files.are_in_order([b"", path]), path)
+        self.assertFalse(plan_files.are_in_order([b"a", b"a"]) or plan_files.are_in_order([b"a", b""]))
+
     def read_or_fail(self, read: Callable[[bytes, bytes], object], text: str) -> None:
         """Reads a text; a fault in it has a message."""
         with contextlib.suppress(Failure):
@@ -247,7 +265,7 @@ class Plans(Case):
         ):
             self.write("other/by_hand_done", notes.encode())
             os.chmod(self.path("other/by_hand_done"), 0o600)
-            self.assertEqual((by_hand_done.is_left(folder, False), by_hand_done.is_left(folder, True)), (is_left, is_to_take_back), notes)
+            self.assertEqual((by_hand.is_left(folder, False), by_hand.is_left(folder, True)), (is_left, is_to_take_back), notes)
         os.close(folder.descriptor)
 
     def test_by_hand_undo_does_not_hinder_the_way_back(self) -> None:
@@ -504,6 +522,19 @@ class SideBySide(Meanwhile):
         self.assertEqual(sorted(carrier.changed), sorted(carrier.seen))
         self.assertEqual(carrier.put_back(), {})
         self.assertEqual(self.all_modes(), {0o640})
+
+    def test_what_is_found_is_what_one_process_finds(self) -> None:
+        """Files as the plan has them, one with another list, one that is gone, and one that is a link now."""
+        carrier = self.carrier_of_many()
+        os.chmod(os.path.join(self.tree, "f09"), 0o4751)
+        os.unlink(os.path.join(self.tree, "f15"))
+        os.rename(os.path.join(self.tree, "f22"), os.path.join(self.tree, "away"))
+        os.symlink("away", os.path.join(self.tree, "f22"))
+        paths = list(carrier.seen)
+        found = survey.look_at_all(paths, lambda path: (carrier.way.identity(path), carrier.way.start(path)))
+        self.assertEqual(found, survey.look(paths))
+        self.assertEqual([it for it in found if isinstance(it, bytes)], [b"is gone", b"is a symbolic link now"])
+        self.assertEqual(len({it.record for it in found if isinstance(it, live.Seen)}), 2)
 
     def test_one_that_is_exchanged_stops_all(self) -> None:
         carrier = self.carrier_of_many()

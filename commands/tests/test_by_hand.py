@@ -29,8 +29,9 @@ from facl_commands.base.user_tools import PeopleChange, shown_change  # noqa: E4
 from facl_commands.model import entries, records  # noqa: E402
 from facl_commands.model.people import People  # noqa: E402
 from facl_commands.model.records import File  # noqa: E402
+from facl_commands.model.snapshot import Snapshot  # noqa: E402
 from facl_commands.plan import by_hand  # noqa: E402
-from facl_commands.planned import by_hand_done, plan_folder, steps  # noqa: E402
+from facl_commands.planned import by_hand as steps, plan_folder  # noqa: E402
 
 SHELLS = [shell for shell in ("dash", "bash") if shutil.which(shell)] or ["sh"]
 OWNER, OWNING_GROUP = os.geteuid(), os.getegid()  # The caller's, so that the tests need not be run by root.
@@ -55,9 +56,9 @@ STAFF_OF_DIRECTORY = b"dirstaff:x:21000:stefan\n"
 PATCHED = """\
 import os, signal, subprocess, sys
 sys.path.insert(0, %(commands)r)
-from facl_commands.apply import by_hand, closed_folder, hand_files
+from facl_commands.apply import by_hand, closed_folder
 from facl_commands.base import linux, messages, new_file
-from facl_commands.planned import by_hand_done
+from facl_commands.planned.by_hand import Doing
 done = []
 def sh(text):
     subprocess.run(["sh", "-c", text], cwd=%(tree)r, check=True)
@@ -114,7 +115,7 @@ class Lines(Case):
             b"1 gpasswd -d guest audit",
         ])
         found = steps.read_steps(b"steps", self.read("before.plan/steps"))
-        self.assertEqual([it.record for it in found.made], [Record(1001, 100, 0, acl_bytes.minimal(mode), b"") for mode in (0o750, 0o640)])
+        self.assertEqual([it.record for it in found.of(True)], [Record(1001, 100, 0, acl_bytes.minimal(mode), b"") for mode in (0o750, 0o640)])
         self.assertEqual(self.read("before.plan/new"), b"")
 
     def test_the_heads(self) -> None:
@@ -170,7 +171,7 @@ class Data(unittest.TestCase):
 
     def written(self) -> steps.Steps:
         changes = records.ChangedPaths([], [*self.MADE], [b"a\n"])
-        return by_hand.steps_of("boot", {b"a\n": Identity(1, 2, -3)}, self.PEOPLE, changes, {b"a\n": FILE}, self.MADE,
+        return by_hand.steps_of(snapshot_of("boot", {b"a\n": Identity(1, 2, -3)}), self.PEOPLE, changes, {b"a\n": FILE}, self.MADE,
                                 {FILE.body: record_of(FILE), FOLDER.body: record_of(FOLDER)})
 
     def test_there_and_back(self) -> None:
@@ -190,11 +191,11 @@ class Data(unittest.TestCase):
 
     def chosen(self, text: bytes, found: steps.Steps) -> Set[int]:
         with mock.patch.multiple(plan_folder.PlanFolder, has=lambda *_: True, read=lambda *_: text):
-            return steps.chosen(plan_folder.PlanFolder(-1, b"plan"), b"by_hand", found.lines())
+            return steps.chosen(plan_folder.PlanFolder(-1, b"plan"), found, False)
 
     def test_lines(self) -> None:
         found = self.written()
-        text = by_hand.script_of(found, self.MADE)
+        text, _ = by_hand.scripts_of(found, self.MADE)
         self.assertEqual(self.chosen(text, found), {1, 2, 3, 4})
         self.assertIn(b"\n2 rm -- '/a\\012'\n", text)
         self.assertEqual(self.chosen(text.replace(b"\n2 rm", b"\n# 2 rm"), found), {1, 3, 4})
@@ -210,7 +211,11 @@ class Data(unittest.TestCase):
 
     def test_notes(self) -> None:
         notes = b"1 begun 1:2:-3\n1 finished 1:2:-3\n2 found\n3 begun 1:2\nx 4\n6 begun 1:2:--3\n\n7 beg\n8 begun is cut off\n5 begun"
-        self.assertEqual(by_hand_done.Notes(notes), {1: (b"finished", Identity(1, 2, -3)), 2: (b"found", None)})
+        self.assertEqual(steps.Notes(notes), {1: (b"finished", Identity(1, 2, -3)), 2: (b"found", None)})
+
+
+def snapshot_of(boot: str, inodes: Dict[bytes, Identity]) -> Snapshot:
+    return Snapshot(b"", b"", b"", [], boot, inodes)
 
 
 def record_of(file: File) -> Record:
@@ -274,10 +279,10 @@ class Scripts(Case):
     def write_plan(self, people: List[PeopleChange], changes: records.ChangedPaths, old: records.Files, new: records.Files,
                    inodes: Dict[bytes, Identity]) -> None:
         known = {new[path].body: record_of(new[path]) for path in changes.made}
-        found = by_hand.steps_of(linux.boot(), inodes, people, changes, old, new, known)
+        found = by_hand.steps_of(snapshot_of(linux.boot(), inodes), people, changes, old, new, known)
         os.makedirs(self.path("plan"), exist_ok=True)
-        for name, text in (("plan", plan_folder.VERSION), ("steps", steps.text_of(found)), ("by_hand", by_hand.script_of(found, new)),
-                           ("by_hand_undo", by_hand.undo_script_of(found))):
+        for name, text in zip(("plan", "steps", "by_hand", "by_hand_undo"),
+                              (plan_folder.VERSION, steps.text_of(found), *by_hand.scripts_of(found, new))):
             self.write("plan/" + name, text)
 
     def run_script(self, name: str, shell: str = "sh") -> Done:
@@ -366,7 +371,8 @@ class Files(Scripts):
             self.write_scripts(gone, {b"new": FOLDER, **{b"new/" + name: FILE for name in odd}})
             text = self.read("plan/by_hand").decode()
             self.assertTrue(all(it.isprintable() or it in "\n\t" for it in text))
-            self.assertEqual(len(steps.read_steps(b"steps", self.read("plan/steps")).lines()), 2 * len(odd) + 1)
+            found = steps.read_steps(b"steps", self.read("plan/steps"))
+            self.assertEqual(len({*map(steps.line_of, found.way())}), 2 * len(odd) + 1)
             self.expect_run("by_hand", 0, shell=shell)
             self.assertEqual((self.names("d"), self.names("new")), (["gone", "stays"], sorted(map(os.fsdecode, odd))))
         self.expect_run("by_hand_undo", 1, f"files and directories that by_hand removed, and that do not come back: {len(odd)}")
@@ -552,7 +558,7 @@ class Exchanges(Scripts):
         for name, status in zip(("HUP", "INT", "QUIT", "TERM"), (129, 130, 131, 143)):
             self.make_tree()
             self.write_scripts(["d/gone"], self.MADE)
-            done = self.run_patched(f"once(hand_files, 'stop_at_signal', lambda *_: os.kill(os.getpid(), signal.SIG{name}))")
+            done = self.run_patched(f"once(by_hand, 'stop_at_signal', lambda *_: os.kill(os.getpid(), signal.SIG{name}))")
             self.assertEqual((done.status, done.messages, self.names("d")), (status, b"", ["stays"]))
             self.expect_run("by_hand", 0)
             self.assertEqual(self.names("d"), ["new", "newfile", "stays"])
@@ -568,7 +574,7 @@ class Exchanges(Scripts):
         for moment in ("'change', lambda *_:", "'change', None, lambda *_:"):
             self.make_tree()
             self.write_scripts(made=self.MADE)
-            self.assertEqual(self.run_patched(f"once(hand_files, {moment} os.kill(os.getpid(), 9))").status, -9)
+            self.assertEqual(self.run_patched(f"once(by_hand, {moment} os.kill(os.getpid(), 9))").status, -9)
             self.assertEqual(len(self.names("d")), 3)
             self.expect_run("by_hand", 0)
             self.assertEqual(self.names("d")[1:], ["gone", "new", "newfile", "stays"])
@@ -582,7 +588,7 @@ class Exchanges(Scripts):
 
     def test_a_record_that_cannot_be_given(self) -> None:
         self.write_scripts(made=self.MADE)
-        fault = "import errno\ndef change(*_): raise OSError(errno.ENOSPC, 'No space left on device')\nhand_files.change = change"
+        fault = "import errno\ndef change(*_): raise OSError(errno.ENOSPC, 'No space left on device')\nby_hand.change = change"
         done = self.run_patched(fault)
         self.assertEqual((done.status, done.messages), (1, f"by_hand: {self.tree}/d/new: No space left on device\n".encode()))
         self.assertEqual(self.names("d"), ["gone", "stays"])
@@ -596,7 +602,7 @@ class Exchanges(Scripts):
         self.expect_run("by_hand", 1, self.tree + "/d/gone: is not there any more")
         self.expect_run("by_hand_undo", 0)
         self.write_scripts(["secret/gone"])
-        self.assertEqual(self.run_patched("once(by_hand_done.Doing, 'add', lambda *_: os.kill(os.getpid(), 9))").status, -9)
+        self.assertEqual(self.run_patched("once(Doing, 'add', lambda *_: os.kill(os.getpid(), 9))").status, -9)
         os.rename(self.tree + "/secret", self.tree + "/hidden")
         self.expect_run("by_hand", 1, self.tree + "/secret: is gone")
 
@@ -616,7 +622,7 @@ class Exchanges(Scripts):
         """What could not be put in place is none that by_hand_undo has to take back."""
         self.write_scripts(made=self.MADE)
         self.assertEqual(self.run_patched("once(linux, 'move', lambda *_: sh(': >d/new'))").status, 1)
-        self.assertEqual({it.state for it in by_hand_done.Notes(self.read("plan/by_hand_done")).values()}, {b"undone"})
+        self.assertEqual({it.state for it in steps.Notes(self.read("plan/by_hand_done")).values()}, {b"undone"})
         self.expect_run("by_hand_undo", 0)
         self.assertEqual(self.names("d"), ["gone", "new", "stays"])
 
@@ -770,7 +776,7 @@ class Cut(Scripts):
         whole = self.read("plan/by_hand_done")
         for size in range(len(whole)):
             self.write("plan/by_hand_done", whole[:size])
-            self.assertEqual(by_hand_done.Notes(whole[:size]), by_hand_done.Notes(whole[: whole.rfind(b"\n", 0, size) + 1]))
+            self.assertEqual(steps.Notes(whole[:size]), steps.Notes(whole[: whole.rfind(b"\n", 0, size) + 1]))
         self.make_tree()
         self.write_scripts(["d/gone"], self.MADE)
         self.write("plan/by_hand_done", b"1 finished")

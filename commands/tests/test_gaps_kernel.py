@@ -2,6 +2,7 @@
 from __future__ import annotations
 
 import os
+import stat
 import tempfile
 import traceback
 import unittest
@@ -44,8 +45,8 @@ def put_default(name: bytes, data: bytes) -> None:
 
 def look(name: bytes) -> State:
     status = os.lstat(name)
-    seen = live.seen_of((status.st_mode, status.st_uid, status.st_gid, 1, 0, 0, 0), name)
-    return state_of(seen.record, seen.is_directory)
+    record = live.record_of(status.st_mode, status.st_uid, status.st_gid, name)
+    return state_of(record, stat.S_ISDIR(status.st_mode))
 
 
 def put(name: bytes, state: State) -> None:

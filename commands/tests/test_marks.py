@@ -392,11 +392,13 @@ class Planned(MarkedCase):
 
 # Code that is added to live.py: one name is that of a file with an attribute.
 ATTRIBUTE = """
-of_system = linux.look_at
-def look_at(descriptor: int, name: bytes = b"") -> object:
-    status, (attributes, mount) = of_system(descriptor, name)
-    return status, (%d if name == b"fixed" else attributes, mount)
-linux.look_at = look_at
+of_system, given = linux.statx, %d
+def statx(descriptor: int, name: bytes = b"", *words: int) -> object:
+    known, attributes, *others = of_system(descriptor, name, *words)
+    if name == b"fixed":
+        attributes, others[3] = given, 0 if given == linux.UNKNOWN else linux.ATTRIBUTES
+    return (known, attributes, *others)
+linux.statx = statx
 """
 
 

@@ -9,13 +9,14 @@ import shutil
 import sys
 import unittest
 from typing import List, Set, Tuple
+from unittest import mock
 
 from common import COMMANDS, HERE, Case
 
 sys.path.insert(0, COMMANDS)
 
 from facl_commands.model.snapshot import Snapshot, read_snapshot  # noqa: E402
-from facl_commands.plan import command as plan  # noqa: E402
+from facl_commands.plan import command as plan, no_gain, opening  # noqa: E402
 from facl_commands.program.scripts import read_script  # noqa: E402
 
 WRITTEN = b"wrote before.plan; next: facl apply before.plan\n"
@@ -24,6 +25,7 @@ PASSWD = b"root:x:0:0::/:/bin/sh\n" + b"".join(b"u%d:x:%d:%d::/:/bin/sh\n" % (k,
 GROUP = b"g0:x:100:\ng1:x:101:u1,u3\ng2:x:102:u1,u4\n"
 DIRECTORIES = (b"", b"a", b"a/b c", b"a/b c/-d", b"e")
 FILES = (b"a/f", b"a/b c/f", b"a/b c/-d/f", b"e/f")
+GIVEN = argparse.Namespace(program=None, acl5=False, file_alone=False, with_root=True)
 
 
 class Lines(Case):
@@ -118,6 +120,18 @@ class Lines(Case):
         self.assertIn(b"a\\054\\040b  none -> r--", self.plan(b"setfacl -m u:1010:r 'it\\047s \\303\\251/f'\n" + edit[len(b"add to the edits: ") :]).out)
 
 
+    def test_a_line_that_opens_nothing(self) -> None:
+        """It is tried before it is printed, and the program has its records back."""
+        snapshot = read_snapshot(os.fsencode(self.path("before")))
+        script = read_script(b"edits", b"setfacl -n -m u:guest:r srv/share/one\n")
+        for edits, edit in (([b"m::rwx", b"u:guest:r"], b""),
+                            ([b"m::rwx", b"u:guest:x", b"u:guest:rx"], b"setfacl -n -m u:guest:x /srv/share")):
+            with mock.patch.object(opening, "edits_to_try", lambda *_, its=edits: its):
+                found = plan.answer_scripts(GIVEN, snapshot, script)
+            self.assertEqual([(it.user, it.edit) for it in found.no_gain], [(b"guest", edit)])
+            end = b"; add for facl-plan: " + edit if edit else b" (other::---)"
+            self.assertTrue(found.no_gain[0].text().endswith(end))
+
     def test_deep_directories(self) -> None:
         # The names of all of them have no room in a line, so the line opens the first.
         chain = [b"srv/share" + b"/" + b"/".join([b"d" * 200] * depth) for depth in range(1, 100)]
@@ -126,6 +140,26 @@ class Lines(Case):
         done = self.plan(b"setfacl -n -m u:guest:r " + chain[-1] + b"\n")
         self.assertTrue(done.out.startswith(b"guest  no gain        1 file    srv/share grants no search permission (other::---), and 98 directories "
                                             b"below it grant none; add to the edits: setfacl -n -m u:guest:x /srv/share\n"), done.out)
+
+
+class Chain(Case):
+    """Directories in one another, each closed to a user whom an edit of all of them names."""
+
+    def test_each_directory_is_looked_at_once(self) -> None:
+        depth, body = 300, b"# owner: 1001\n# group: 100\nuser::rwx\ngroup::r-x\nother::---\n\n"
+        chain = [b"srv/share" + b"/d" * number for number in range(1, depth + 1)]
+        self.write("before/dump", self.read("before/dump") + b"".join(b"# file: /" + path + b"/\n" + body for path in chain))
+        snapshot, looks, closes = read_snapshot(os.fsencode(self.path("before"))), [0], no_gain.Ways.closes
+
+        def counted(ways: no_gain.Ways, path: bytes) -> Set[bytes]:
+            looks[0] += 1
+            return closes(ways, path)
+
+        with mock.patch.object(no_gain.Ways, "closes", counted):
+            found = plan.answer_scripts(GIVEN, snapshot, read_script(b"edits", b"setfacl -R -n -m u:guest:r,u:mara:r srv/share/d\n"))
+        self.assertEqual([(it.user, it.files, it.opened + it.closed) for it in found.no_gain],
+                         [(b"mara", depth, depth), (b"guest", depth, depth)])
+        self.assertLess(looks[0], 4 * depth)
 
 
 class Random(Case):
@@ -148,8 +182,7 @@ class Random(Case):
 
     def outcome(self, snapshot: Snapshot, script: bytes) -> Tuple[plan.Outcome, Set[Tuple[bytes, ...]], List[bytes]]:
         """With users and files of whom the program says that they gain along paths, and the lines of its index."""
-        given = argparse.Namespace(program=None, acl5=False, file_alone=False, with_root=True)
-        found = plan.answer_scripts(given, snapshot, read_script(b"edits", script + b"changes --reach\nindex\n"))
+        found = plan.answer_scripts(GIVEN, snapshot, read_script(b"edits", script + b"changes --reach\nindex\n"))
         self.assertEqual(found.messages, [])
         gains = {tuple(line.split(b" ", 3)[::3]) for line in found.asked[-2].output.splitlines() if b" gains " in line}
         return found, gains, found.asked[-1].output.splitlines()

@@ -1,9 +1,8 @@
-"""The folders and files that a command makes for itself."""
+"""The files that a command makes for itself."""
 from __future__ import annotations
 
 import os
 import signal
-import stat
 import sys
 import unittest
 from unittest import mock
@@ -12,11 +11,8 @@ from common import COMMANDS, Case
 
 sys.path.insert(0, COMMANDS)
 
-from facl_commands.base import scratch  # noqa: E402
+from facl_commands.base import new_file, scratch  # noqa: E402
 from facl_commands.base.messages import Failure, Interrupted, interrupt  # noqa: E402
-
-# u::rwx, u:70001:rwx, g::r-x, m::rwx, o::r-x
-DEFAULT_LIST = "02000000" "01000700ffffffff" "0200070071110100" "04000500ffffffff" "10000700ffffffff" "20000500ffffffff"
 
 
 class Scratch(Case):
@@ -31,80 +27,64 @@ class Scratch(Case):
     def given(self, name: str) -> "mock._patch_dict":
         return mock.patch.dict(os.environ, {"TMPDIR": name})
 
-    def test_a_folder_is_the_callers_alone_and_goes(self) -> None:
-        with self.given(self.place), scratch.folder("facl-x.") as work:
-            self.assertEqual(os.path.dirname(work), self.place)
-            look = os.lstat(work)
-            self.assertEqual((stat.S_IMODE(look.st_mode), look.st_uid), (0o700, os.geteuid()))
-            os.mkdir(os.path.join(work, "d"))
-            open(os.path.join(work, "d", "f"), "xb").close()
-            os.symlink("/nowhere", os.path.join(work, "link"))
-            self.assertEqual(os.listdir(self.place), [os.path.basename(work)])
-        self.assertEqual(os.listdir(self.place), [])
+    def folder_of_new_file(self) -> str:
+        """In which folder a new file is made."""
+        with scratch.new_file("facl-x.") as file:
+            return os.path.dirname(os.readlink("/proc/self/fd/%d" % file.fileno()))
 
     def test_a_file_has_no_name(self) -> None:
         with self.given(self.place), scratch.new_file("facl-x.") as file:
+            self.assertEqual(file.read(), b"")
             file.write(b"abc")
             file.seek(0)
-            self.assertEqual((file.read(), os.fstat(file.fileno()).st_nlink, os.listdir(self.place)), (b"abc", 0, []))
+            look = os.fstat(file.fileno())
+            self.assertEqual((file.read(), look.st_nlink, look.st_size, os.listdir(self.place)), (b"abc", 0, 3, []))
 
     def test_a_place_that_others_can_write_or_that_is_relative_is_not_taken(self) -> None:
         open_to_all = self.path("open")
         os.mkdir(open_to_all)
         os.chmod(open_to_all, 0o777)
         for name in (".", "", open_to_all, self.path("none"), os.path.join(self.place, "..", "open")):
-            with self.given(name), scratch.folder("facl-x.") as work:
-                self.assertEqual(os.path.dirname(work), os.path.realpath("/tmp"))
+            with self.given(name):
+                self.assertEqual(self.folder_of_new_file(), os.path.realpath("/tmp"))
             self.assertEqual(os.listdir(self.place) + os.listdir(open_to_all), [])
+        with self.given(self.place):
+            self.assertEqual(self.folder_of_new_file(), self.place)
 
     def test_no_place_is_a_failure_and_never_the_current_folder(self) -> None:
         with self.given(self.path("none")), mock.patch.object(scratch, "USUAL", (b"/nowhere",)):
-            with self.assertRaises(Failure) as found, scratch.folder("facl-x."):
-                pass
-            self.assertRaises(Failure, scratch.new_file, "facl-x.")
-        self.assertRegex(found.exception.text, rb"^no place for files of the command's own: .*/none: No such file or directory; "
-                         rb"/nowhere: No such file or directory$")
+            with self.assertRaises(Failure) as found:
+                scratch.new_file("facl-x.")
+        self.assertRegex(found.exception.text, rb"^no place for files of the command's own: .*/none: No such file or "
+                         rb"directory; /nowhere: No such file or directory$")
         self.assertEqual((found.exception.status, os.listdir(self.place)), (2, []))
 
     def test_a_place_without_room_is_left_out(self) -> None:
         other = os.path.realpath(self.path("other"))
         os.mkdir(other)
-        real = scratch.make_file
+        write = os.pwrite
 
-        def full_at_first(folder: int, prefix: str) -> object:
-            if os.readlink("/proc/self/fd/%d" % folder) == self.place:
+        def full_at_first(descriptor: int, text: bytes, place: int) -> int:
+            if os.readlink("/proc/self/fd/%d" % descriptor).startswith(self.place):
                 raise OSError(28, "No space left on device")
-            return real(folder, prefix)
+            return write(descriptor, text, place)
 
         with self.given(self.place), mock.patch.object(scratch, "USUAL", (os.fsencode(other),)), \
-                mock.patch.object(scratch, "make_file", full_at_first), scratch.folder("facl-x.") as work:
-            self.assertEqual(os.path.dirname(work), other)
+                mock.patch.object(os, "pwrite", full_at_first):
+            self.assertEqual(self.folder_of_new_file(), other)
+        with self.given(self.place), mock.patch.object(scratch, "USUAL", (os.fsencode(other),)), \
+                mock.patch.object(os, "pwrite", lambda *_: 1), self.assertRaises(Failure):
+            scratch.new_file("facl-x.")
 
     def test_a_signal_leaves_nothing(self) -> None:
         self.addCleanup(signal.signal, signal.SIGTERM, signal.signal(signal.SIGTERM, interrupt))
-        make = scratch.make_folder
-
-        def make_and_signal(prefix: str) -> bytes:
-            name = make(prefix)
+        def create_and_signal(name: bytes, folder: int) -> int:
             os.kill(os.getpid(), signal.SIGTERM)
-            return name
+            return new_file.create(name, folder)
 
-        with self.given(self.place):
-            with self.assertRaises(Interrupted), mock.patch.object(scratch, "make_folder", make_and_signal):
-                with scratch.folder("facl-x."):
-                    self.fail("the signal was lost")
-            with self.assertRaises(Interrupted), scratch.folder("facl-x."):
-                os.kill(os.getpid(), signal.SIGTERM)
+        with self.given(self.place), self.assertRaises(Interrupted), mock.patch.object(scratch, "create", create_and_signal):
+            scratch.new_file("facl-x.")
         self.assertEqual(os.listdir(self.place), [])
-
-    @unittest.skipUnless(os.geteuid() == 0, "needs root")
-    def test_lists_of_the_place_are_not_inherited(self) -> None:
-        try:
-            os.setxattr(self.place, "system.posix_acl_default", bytes.fromhex(DEFAULT_LIST))
-        except OSError:
-            self.skipTest("no lists here")
-        with self.given(self.place), scratch.folder("facl-x.") as work:
-            self.assertEqual([name for name in os.listxattr(work) if "acl" in name], [])
 
 
 if __name__ == "__main__":

@@ -9,7 +9,6 @@ something is not as it has to be, 2 where the words are others, a tool is not in
 """
 from __future__ import annotations
 
-import contextlib
 import fcntl
 import os
 import random
@@ -106,15 +105,7 @@ class Daily(Check):
         """A run that gets a signal after a wait, or with it all that it runs. A process of its own session sends it, since a
         system that shares time by sessions may let the run go on for long before this process has its turn."""
         start = ["sh", "-c", KILLER, "sh", f"{wait:.3f}", str(int(number)), "-" if to_all else ""]
-        words, pipe = [*map(os.fsencode, start), *self.daily_words("kept")], subprocess.PIPE
-        with subprocess.Popen(words, stdin=subprocess.DEVNULL, stdout=pipe, stderr=pipe, start_new_session=True,
-                              env={**os.environ, **self.variables()}, preexec_fn=default_signals) as running:
-            out, said = running.communicate()
-        with contextlib.suppress(ProcessLookupError):
-            while True:
-                os.killpg(running.pid, 0)
-                time.sleep(0.01)
-        return Done(words, running.returncode, out, said)
+        return self.in_session([*map(os.fsencode, start), *self.daily_words("kept")], default_signals, lambda _: None)
 
     def check_kills(self, seed: int) -> None:
         """A run that a signal ends at a random moment, at times the next one too: what changed is said then."""

@@ -423,7 +423,10 @@ class Others(Check):
     def check_places(self, _seed: int) -> None:
         """MALLORY has filled /tmp and /var/tmp, and root works in a folder of MALLORY: facl-plan ends with a message, or
         takes a $TMPDIR that nobody else can write; nothing is made in the folder."""
-        top, own, room = (make(self.name(it), 0o755, owner) for it, owner in (("places/", 0), ("own/", MALLORY), ("room/", 0)))
+        top, own, room = map(self.name, ("places", "own", "room"))
+        for place, owner in ((top, 0), (own, MALLORY), (room, 0)):
+            remove(place)
+            make(place + b"/", 0o755, owner)
         expect(self.planned(Tree.of(top, [b"a"]), b"chmod 600 " + word(top + b"/a")), "no plan of the places")
         full = b": No space left on device"
         for place, status, said in ((b"", 2, b"/tmp%s; /var/tmp%s" % (full, full)), (b".", 2, b"/tmp%s; /var/tmp%s" % (full, full)),

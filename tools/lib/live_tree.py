@@ -423,26 +423,34 @@ class Check:
     def apply(self, *words: bytes, user: int = 0) -> Done:
         return self.command(b"facl-apply", *words, self.plan, user=user)
 
-    def ended_by(self, words: List[bytes], number: int, wait: Callable[[], None], to_all: bool = False,
-                 ignored: int = 0) -> Done:
-        """A run that gets a signal after a wait, or with it all that it runs; over when no process of it is left."""
-
-        def before() -> None:
-            for each in (signal.SIGHUP, signal.SIGINT, signal.SIGQUIT):  # Ignored in the background.
-                signal.signal(each, signal.SIG_IGN if each == ignored else signal.SIG_DFL)
-
+    def in_session(self, words: List[bytes], before: Callable[[], None], meanwhile: Callable[[int], None]) -> Done:
+        """A run in a session of its own, which calls a function before it begins; another one is called with its number.
+        It is over when no process of it is left."""
         pipe = subprocess.PIPE
         with subprocess.Popen(words, stdin=subprocess.DEVNULL, stdout=pipe, stderr=pipe, start_new_session=True,
                               env={**os.environ, **self.variables()}, preexec_fn=before) as running:
-            wait()
-            with contextlib.suppress(ProcessLookupError):
-                (os.killpg if to_all else os.kill)(running.pid, number)
+            meanwhile(running.pid)
             out, said = running.communicate()
         with contextlib.suppress(ProcessLookupError):
             while True:
                 os.killpg(running.pid, 0)
                 time.sleep(0.01)
         return Done(words, running.returncode, out, said)
+
+    def ended_by(self, words: List[bytes], number: int, wait: Callable[[], None], to_all: bool = False,
+                 ignored: int = 0) -> Done:
+        """A run that gets a signal after a wait, or with it all that it runs."""
+
+        def before() -> None:
+            for each in (signal.SIGHUP, signal.SIGINT, signal.SIGQUIT):  # Ignored in the background.
+                signal.signal(each, signal.SIG_IGN if each == ignored else signal.SIG_DFL)
+
+        def end(process: int) -> None:
+            wait()
+            with contextlib.suppress(ProcessLookupError):
+                (os.killpg if to_all else os.kill)(process, number)
+
+        return self.in_session(words, before, end)
 
     def forget(self) -> None:
         """Makes the plan one that was never applied."""

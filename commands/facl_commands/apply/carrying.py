@@ -1,6 +1,7 @@
 """Carries a plan out: each file gets its new record, or all that were changed get their old ones back."""
 from __future__ import annotations
 
+import contextlib
 import os
 import signal
 from functools import partial
@@ -9,14 +10,14 @@ from typing import Callable, Dict, Iterable, List, Optional, Set, Tuple
 from ..base import linux, live, workers
 from ..base.acl_bytes import Record
 from ..base.linux import Identity
-from ..base.live import NotFound, Opener, OpenFile, Seen
+from ..base.live import PLACES, NotFound, Opener, OpenFile, Seen
 from ..base.messages import SIGNALS, reason
-from ..base.names import path_order
+from ..base.names import parent_of, path_order
 from ..base.progress import AT
 from ..base.workers import Helper, Stop
 from ..planned import differences, plan_files, plan_folder
 from . import changing
-from .direction import Direction, Look, closes, is_expected, look_at, opens, unexpected, was_closed
+from .direction import REPLACED, Direction, Look, closes, is_expected, look_at, opens, unexpected, was_closed
 
 OFTEN = 64  # Files between two looks at the signals that wait.
 
@@ -27,6 +28,10 @@ class Mismatch(Exception):
     def __init__(self, text: bytes) -> None:
         super().__init__(text)
         self.text = text
+
+
+def waiting_signals() -> Set[int]:
+    return {*signal.sigpending()} & {*SIGNALS}
 
 
 class Carrier:
@@ -40,7 +45,6 @@ class Carrier:
         self.changed: List[bytes] = []
         self.add_changed(look.files)
         self.finished: Set[Identity] = set()  # Files of several names.
-        self.folders: Dict[int, int] = {}  # A directory of each file system that was changed.
         self.stop = Stop()  # Set where no process is to change a further file.
 
     def add_changed(self, seen: Dict[bytes, Seen]) -> None:
@@ -126,7 +130,6 @@ class Carrier:
         parts = workers.parts_of(paths) if os.geteuid() == 0 else []
         if len(parts) < 2:
             return [paths]
-        self.remember_folders(paths)
         several = {path for path in paths if self.seen[path].names > 1 and not self.seen[path].is_directory}
         return [parts[0] + sorted(several.difference(parts[0]), key=path_order),
                 *([path for path in part if path not in several] for part in parts[1:])]
@@ -154,6 +157,7 @@ class Carrier:
 
     def give_apart(self, paths: List[bytes]) -> Tuple[List[bytes], Dict[bytes, bytes]]:
         """What another process changed, and what it could not."""
+        PLACES.begin_in_own_process()
         self.changed = []
         left = self.give_part(paths)
         return self.changed, left
@@ -172,65 +176,32 @@ class Carrier:
         self.changed += changed
         return dict(left)
 
+    def look_again(self, file: OpenFile, path: bytes) -> Seen:
+        """A file as it is now; fails where it is another one than before."""
+        seen = file.look()
+        if seen.identity != self.seen[path].identity:
+            raise Mismatch(REPLACED)
+        return seen
+
     def give_one(self, opener: Opener, path: bytes) -> None:
         file = opener.open(path)
         try:
-            seen = file.look()
-            if seen != self.seen[path]:
-                self.check_again(path, seen)
-            if seen.names > 1 and seen.identity in self.finished and seen.record == self.way.end(path):
+            seen, end = self.look_again(file, path), self.way.end(path)
+            is_done = bool(self.finished) and seen.identity in self.finished and seen.record == end  # By another name.
+            if seen != self.seen[path] and not is_done and not is_expected(self.way, path, seen.record):
+                raise Mismatch(b"was changed: " + differences.parts(seen.record, self.way.start(path)))
+            if is_done and seen.names > 1:
                 return
             self.changed.append(path)
-            if seen.device not in self.folders:
-                self.remember_folder(opener, file, seen)
-            change(file, seen.record, self.way.end(path), seen.is_directory)
+            change(file, seen.record, end, seen.is_directory)
             if seen.names > 1:
                 self.finished.add(seen.identity)
         finally:
             file.close()
 
-    def check_again(self, path: bytes, seen: Seen) -> None:
-        """Fails where a file is another one than before, or is not as it was."""
-        if seen.identity != self.seen[path].identity:
-            raise Mismatch(b"was replaced by another file")
-        is_done = seen.identity in self.finished and seen.record == self.way.end(path)  # By another name.
-        if not is_done and not is_expected(self.way, path, seen.record):
-            raise Mismatch(b"was changed: " + differences.parts(seen.record, self.way.start(path)))
-
-    def remember_folder(self, opener: Opener, file: OpenFile, seen: Seen) -> None:
-        """Keeps a directory of the file system open, to write out what it has in memory; where there is none that the
-        caller may read, all file systems are written out."""
-        name = file.name if seen.is_directory else b"/proc/self/fd/%d" % opener.last()
-        self.folders[seen.device] = linux.NO_DESCRIPTOR
-        try:
-            folder = os.open(name, os.O_RDONLY | os.O_CLOEXEC)
-        except PermissionError:
-            return
-        if os.fstat(folder).st_dev == seen.device:
-            self.folders[seen.device] = folder
-        else:
-            os.close(folder)
-
-    def remember_folders(self, paths: List[bytes]) -> None:
-        """The same for all files, before other processes change them."""
-        first: Dict[int, bytes] = {}
-        for path in paths:
-            first.setdefault(self.seen[path].device, path)
-        with Opener() as opener:
-            for device in first.keys() - self.folders.keys():
-                fault_of(self.remember_folder_of, opener, first[device])
-                self.folders.setdefault(device, linux.NO_DESCRIPTOR)  # Where its first file is not there now.
-
-    def remember_folder_of(self, opener: Opener, path: bytes) -> None:
-        file = opener.open(path)
-        try:
-            self.remember_folder(opener, file, self.seen[path])
-        finally:
-            file.close()
-
     def stop_at_signal(self) -> None:
         """Where a signal waits, no process changes a further file."""
-        if signal.sigpending() & set(SIGNALS):
+        if waiting_signals():
             self.stop.set()
 
     def is_stopped(self) -> bool:
@@ -247,18 +218,32 @@ class Carrier:
         """Gives a file the record of the start."""
         file = opener.open(path)
         try:
-            seen = file.look()
-            if seen.identity != self.seen[path].identity:
-                raise Mismatch(b"was replaced by another file")
+            seen = self.look_again(file, path)
             change(file, seen.record, self.way.start(path), seen.is_directory)
         finally:
             file.close()
 
     def end(self, state: bytes) -> None:
         """Keeps in the plan what was done, when that is on the disk."""
-        for folder in self.folders.values():
-            linux.write_out(folder)
+        files = {seen.identity.device: (path, seen) for path, seen in self.seen.items()}
+        with Opener() as opener:
+            for device, (path, seen) in files.items():
+                write_out(opener, device, path if seen.is_directory else parent_of(path))
         plan_folder.set_state(self.way.folder, state)
+
+
+def write_out(opener: Opener, device: int, folder: bytes) -> None:
+    """Writes out what a file system has in memory, of which a folder is; all of them where it is of another one, or the
+    caller cannot read it."""
+    descriptor = linux.NO_DESCRIPTOR
+    with contextlib.suppress(NotFound, OSError):
+        descriptor = os.open(b"/proc/self/fd/%d" % opener.folder(folder), os.O_RDONLY | os.O_CLOEXEC)
+    is_it = descriptor != linux.NO_DESCRIPTOR and os.fstat(descriptor).st_dev == device
+    try:
+        linux.write_out(descriptor if is_it else linux.NO_DESCRIPTOR)
+    finally:
+        if descriptor != linux.NO_DESCRIPTOR:
+            os.close(descriptor)
 
 
 def fault_of(step: Callable[[Opener, bytes], None], opener: Opener, path: bytes) -> Optional[bytes]:

@@ -38,12 +38,12 @@ def flags_meanwhile(now: int, end: int, is_directory: bool) -> int:
 def change(file: OpenFile, now: Record, end: Record, is_directory: bool) -> None:
     """Gives a file its new record; at no moment is anybody granted by it what neither the present nor the new record
     grants, whatever its owner does meanwhile."""
-    is_moved = now.ids() != end.ids()
-    meanwhile = flags_meanwhile(now.flags, end.flags, is_directory)
-    if is_moved or now.access != end.access or now.default != end.default:
-        if meanwhile != now.flags and (is_moved or now.flags != end.flags):
+    found, is_moved = now, now.ids() != end.ids()
+    if is_moved or now.flags != end.flags:
+        meanwhile = flags_meanwhile(now.flags, end.flags, is_directory)
+        if meanwhile != now.flags and (is_moved or now.access != end.access or now.default != end.default):
             file.set_mode(meanwhile | acl_bytes.permissions_of(now.access))
-    found = move(file, now, end, meanwhile) if is_moved else now
+        found = move(file, now, end, meanwhile) if is_moved else now
     if found.access != end.access:
         file.set_access(end.access)
     if found.default != end.default:

@@ -14,7 +14,8 @@ from ..base.live import Seen
 from ..base.messages import Command, Failure, counted, parser_of, reason, signals_wait
 from ..base.names import live_name, path_order, shell_word
 from ..model import meta
-from ..planned import by_hand_done, differences, plan_files, plan_folder
+from ..planned import by_hand as planned_by_hand
+from ..planned import differences, plan_files, plan_folder
 from .carrying import Carrier
 from .direction import Direction, Look, Obstacles, look_at, read_way, unexpected
 
@@ -198,7 +199,7 @@ def by_hand(way: Direction) -> List[bytes]:
     """The line that names what is to be done by hand, where there is something. It is made before anything is touched:
     a script that cannot be read has no part in what is said of the files."""
     try:
-        is_left = by_hand_done.is_left(way.folder, way.is_undo)
+        is_left = planned_by_hand.is_left(way.folder, way.is_undo)
     except Failure as failure:
         if not way.is_undo:  # The way back of files does not depend on it.
             raise

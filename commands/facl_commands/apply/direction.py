@@ -4,7 +4,7 @@ from __future__ import annotations
 
 import os
 import stat
-from typing import Dict, Iterable, List, NamedTuple, Optional, Tuple
+from typing import Dict, Iterable, List, NamedTuple, Optional, Set, Tuple
 
 from ..base import linux, live
 from ..base.acl_bytes import Record, is_minimal, owner_permissions
@@ -16,6 +16,8 @@ from ..planned.plan_files import Devices, Journal, Work
 from ..planned.plan_folder import PlanFolder
 from . import survey
 from .changing import is_between
+
+REPLACED = b"was replaced by another file"
 
 
 class Direction(NamedTuple):
@@ -34,6 +36,11 @@ class Direction(NamedTuple):
     def end(self, path: bytes) -> Record:
         file = self.work.files[path]
         return file.old if self.is_undo else file.new
+
+    def identity(self, path: bytes) -> Identity:
+        """Which file a path has to be of: that of the journal, else that of the snapshot."""
+        known = self.work.files[path].identity
+        return known if self.journal is None else self.journal.files.get(path, known)
 
     def was_cut_off(self) -> bool:
         return self.state in (plan_folder.APPLYING, plan_folder.UNDOING)
@@ -93,14 +100,14 @@ def was_closed(way: Direction, path: bytes, now: Record) -> bool:
     return way.is_in_part() and closes(way, path) and not owner_permissions(now.access) & 1
 
 
-def fault_of(way: Direction, devices: Devices, path: bytes, seen: Seen) -> Optional[bytes]:
-    """Why a file is not the one that the plan is about."""
+def fault_of(way: Direction, devices: Devices, path: bytes, found: survey.Found) -> Optional[bytes]:
+    """Why what was found of a path is not the file that the plan is about."""
+    if isinstance(found, bytes):
+        return found
     file = way.work.files[path]
-    if seen.is_directory != file.is_directory:
+    if found.is_directory != file.is_directory:
         return b"is not a directory now" if file.is_directory else b"is a directory now"
-    if not devices.is_same(plan_files.recorded_identity(path, file, way.journal), seen.identity):
-        return b"was replaced by another file"
-    return None
+    return None if devices.is_same(way.identity(path), found.identity) else REPLACED
 
 
 def look_at(way: Direction, paths: Iterable[bytes]) -> Look:
@@ -110,7 +117,7 @@ def look_at(way: Direction, paths: Iterable[bytes]) -> Look:
     devices = Devices(way.boot(), linux.boot())
     if os.geteuid() == 0:
         names = list(paths)
-        for path, found in zip(names, survey.look_at_all(names)):
+        for path, found in zip(names, survey.look_at_all(names, lambda path: (way.identity(path), way.start(path)))):
             take(way, devices, look, path, found)
         return look
     opened: List[bytes] = []  # The directories that the plan opens to the caller.
@@ -126,15 +133,12 @@ def look_at(way: Direction, paths: Iterable[bytes]) -> Look:
 
 def take(way: Direction, devices: Devices, look: Look, path: bytes, found: survey.Found) -> bool:
     """Takes what was found of a path; whether it is the file that the plan is about."""
-    if isinstance(found, bytes):
-        look.faults[path] = found
-        return False
     fault = fault_of(way, devices, path, found)
     if fault is not None:
         look.faults[path] = fault
-        return False
-    look.files[path] = found
-    return True
+    elif not isinstance(found, bytes):
+        look.files[path] = found
+    return fault is None
 
 
 def is_closed(way: Direction, path: bytes, now: Record) -> bool:
@@ -149,22 +153,17 @@ def is_expected(way: Direction, path: bytes, now: Record) -> bool:
 
 
 def unexpected(way: Direction, look: Look) -> Dict[bytes, bytes]:
-    """The files that are not as they were, each with what is another."""
+    """The files that are not as they were, each with what is another; also names that were those of one file, and are
+    not now."""
+    first: Dict[int, Identity] = {}
     found = dict(look.faults)
     for path, seen in look.files.items():
-        if not is_expected(way, path, seen.record):
-            found[path] = b"was changed: " + differences.parts(seen.record, way.start(path))
-    return {**found, **no_longer_one_file(way, look)}
-
-
-def no_longer_one_file(way: Direction, look: Look) -> Dict[bytes, bytes]:
-    """Names that were those of one file, and are not now."""
-    first: Dict[int, Identity] = {}
-    found = {}
-    several = {path: seen for path, seen in look.files.items() if way.work.files[path].same}
-    for path, seen in several.items():
-        if first.setdefault(way.work.files[path].same, seen.identity) != seen.identity:
+        file = way.work.files[path]
+        start = file.new if way.is_undo else file.old
+        if file.same and first.setdefault(file.same, seen.identity) != seen.identity:
             found[path] = b"is another file than the other name that it had in the snapshot"
+        elif seen.record != start and not is_expected(way, path, seen.record):
+            found[path] = b"was changed: " + differences.parts(seen.record, start)
     return found
 
 
@@ -186,6 +185,7 @@ class Obstacles:
         self.read_only: Dict[Mount, bool] = {}
         self.has_lists: Dict[int, bool] = {}
         self.overlays: Dict[int, int] = {}  # As system.overlay_of says.
+        self.free: Set[Mount] = set()  # Without an obstacle for any file.
 
     def of_right(self, path: bytes, seen: Seen) -> Optional[bytes]:
         """Of a caller who is not root."""
@@ -205,16 +205,18 @@ class Obstacles:
             return error.text
         try:
             is_same = file.look().identity == seen.identity
-            return self.of_file(file, path, seen) if is_same else b"was replaced by another file"
+            return self.of_file(file, path, seen) if is_same else REPLACED
         finally:
             file.close()
 
     def of_file(self, file: OpenFile, path: bytes, seen: Seen) -> Optional[bytes]:
-        device, (_, mount), end = seen.device, seen.beside, self.way.end(path)
+        device, (_, mount), end = seen.identity.device, seen.beside, self.way.end(path)
         if mount not in self.read_only:
             self.read_only[mount] = bool(os.fstatvfs(file.descriptor).f_flag & os.ST_RDONLY)
             self.has_lists[device] = file.takes_lists()
             self.overlays[device] = linux.overlay_of(file.descriptor, device)
+            if not self.read_only[mount] and self.has_lists[device] and self.overlays[device] == linux.NO_OVERLAY:
+                self.free.add(mount)
         if self.read_only[mount]:
             return b"is on a file system that is mounted read-only"
         has_names = seen.names > 1 and not seen.is_directory
@@ -231,12 +233,8 @@ class Obstacles:
         return None
 
     def has_more(self, seen: Seen, end: Record) -> bool:
-        """Whether a file itself has to be opened: its file system is not known yet, or has an obstacle or is an
-        overlay, or its owner changes."""
-        device, (_, mount) = seen.device, seen.beside
-        is_free = mount in self.read_only and self.has_lists[device] and not self.read_only[mount]
-        return (not is_free or self.overlays[device] != linux.NO_OVERLAY
-                or seen.owner != end.owner or seen.group != end.group)
+        """Whether a file itself has to be opened: its mount is not known yet or may hinder it, or its owner changes."""
+        return seen.beside[1] not in self.free or seen.record.ids() != end.ids()
 
     def all(self, look: Look) -> Dict[bytes, bytes]:
         """The obstacles of all files."""

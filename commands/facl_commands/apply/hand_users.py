@@ -1,28 +1,27 @@
-"""The steps of by_hand that change users and groups, and the way back: by the tools of the system, which change rows of
-/etc/passwd and /etc/group alone."""
+"""The steps of by_hand that change users and groups: by the tools of the system, which change rows of /etc/passwd and
+/etc/group alone."""
 from __future__ import annotations
 
 import os
 import shutil
 import signal
 import subprocess
-from typing import Dict, Iterator, NamedTuple, Optional, Tuple
+from typing import Iterator, NamedTuple, Optional, Tuple
 
 from ..base.environment import environment_of_called
 from ..base.messages import SIGNALS, Failure, signals_wait
 from ..base.names import write_name
-from ..base.user_tools import ADD_USER, MEMBERSHIPS, REMOVE_MEMBER, REMOVE_USER, PeopleChange, shown_change
-from ..planned.by_hand_done import BEGUN, FINISHED, FOUND, UNDONE, Doing
-from ..planned.steps import PeopleStep
+from ..base.user_tools import ADD_MEMBER, ADD_USER, MEMBERSHIPS, REMOVE_USER, PeopleChange
+from ..planned.by_hand import BEGUN, FINISHED, FOUND, UNDONE, Doing, PeopleStep
 from .carrying import Mismatch
 
 NOT_FOUND = 2  # The status of getent where there is no such row.
-Ids = Tuple[bytes, bytes]
+ENVIRONMENT = {**environment_of_called(), "LC_ALL": "C", "PATH": os.environ.get("PATH", os.defpath) + ":/usr/sbin:/sbin"}
+Ids = Tuple[bytes, bytes]  # UID and GID of a user, GID and MEMBERS of a group.
 
 
 class Row(NamedTuple):
-    """What the name service has of a name, and what /etc/passwd or /etc/group has: UID and GID of a user, GID and MEMBERS of a
-    group."""
+    """What the name service has of a name, and what /etc/passwd or /etc/group has."""
 
     found: Optional[Ids]
     local: Optional[Ids]
@@ -35,147 +34,120 @@ class OfService(Mismatch):
     """What has to be done in a directory service."""
 
 
-def environment() -> Dict[str, str]:
-    path = os.environ.get("PATH", os.defpath) + ":/usr/sbin:/sbin"
-    return {**environment_of_called(), "LC_ALL": "C", "PATH": path}
-
-
 def tool_of(name: bytes) -> bytes:
-    found = shutil.which(os.fsdecode(name), path=environment()["PATH"])
+    found = shutil.which(os.fsdecode(name), path=ENVIRONMENT["PATH"])
     if found is None:
         raise Failure(name + b": is not installed", 1)
     return os.fsencode(found)
 
 
 def getent(*words: bytes) -> Tuple[int, bytes]:
-    done = subprocess.run([tool_of(b"getent"), *words], stdout=subprocess.PIPE, env=environment(), check=False)
+    done = subprocess.run([tool_of(b"getent"), *words], stdout=subprocess.PIPE, env=ENVIRONMENT, check=False)
     return done.returncode, done.stdout
 
 
-def row_in(text: bytes, name: bytes) -> Optional[Ids]:
+def row_by(name: bytes, *words: bytes, key: Tuple[bytes, ...] = ()) -> Optional[Ids]:
+    """The row of a name in what getent prints; of a key there may be none."""
+    status, text = getent(*words, *key)
+    if status not in (0, NOT_FOUND if key else 0):
+        raise Failure(b"getent " + b" ".join(words) + b" fails", 1)
     rows = [line.split(b":") for line in text.splitlines()]
     return next(((it[2], it[3]) for it in rows if it[0] == name and len(it) > 3), None)
 
 
 def look_up(database: bytes, name: bytes, number: int) -> Row:
-    """The name service is asked for the one name, as a directory service may list nobody. getent takes a name of digits for an
-    id: then the id is asked for, and the name compared."""
-    status, text = getent(b"-s", b"files", database)
-    if status != 0:
-        raise Failure(b"getent -s files " + database + b" fails", 1)
-    local = row_in(text, name)
-    status, text = getent(database, b"--", b"%d" % number if name.isdigit() else name)
-    if status not in (0, NOT_FOUND):
-        raise Failure(b"getent " + database + b" fails", 1)
-    return Row(row_in(text, name) or local, local)
+    """Looks up the one name, as a directory service may list nobody. getent takes a name of digits for an id: then it looks up
+    the id, and the name is compared."""
+    local = row_by(name, b"-s", b"files", database)
+    return Row(row_by(name, database, key=(b"--", b"%d" % number if name.isdigit() else name)) or local, local)
 
 
-def run_tool(change: PeopleChange) -> int:
-    """Runs the tool that makes a change, to its end, also where a signal comes; returns its status."""
-    words = [tool_of(change.tool()), *change.words()[1:]]
-    out = subprocess.DEVNULL if change.kind in MEMBERSHIPS else None
-    with signals_wait():
-        return subprocess.run(words, stdout=out, env=environment(), check=False,
-                              preexec_fn=lambda: signal.pthread_sigmask(signal.SIG_UNBLOCK, SIGNALS)).returncode
-
-
-# --- a change, before it is made
-
-
-def row_with(database: bytes, what: bytes, number: int) -> Row:
+def row_with(database: bytes, name: bytes, number: int) -> Row:
     """The row of a name, which has to have this id."""
-    row = look_up(database, what, number)
+    row = look_up(database, name, number)
     if row.found is None or row.found[0] != b"%d" % number:
-        raise Mismatch((b"user " if database == b"passwd" else b"group ") + write_name(what) + b": is not there with the id %d" % number)
+        noun = {b"passwd": b"user ", b"group": b"group "}[database]
+        raise Mismatch(noun + write_name(name) + b": is not there with the id %d" % number)
     return row
 
 
-def is_made(change: PeopleChange) -> bool:
-    """Whether a change is made already; fails where the system is another one than it has to be, and with OfService where the
-    tools do not make the change."""
-    if change.kind in MEMBERSHIPS:
-        row_with(b"passwd", change.user.name, change.user.uid)
-    group = row_with(b"group", change.group, change.gid) if change.group else None
-    if group is not None and change.kind in MEMBERSHIPS:
-        return is_member_made(change, group)
-    return is_user_made(change)
-
-
 def is_member_made(change: PeopleChange, group: Row) -> bool:
-    user, name, is_removed = write_name(change.user.name), write_name(change.group), change.kind == REMOVE_MEMBER
+    """Whether a membership is as it is to be; fails with OfService if the tools do not make it so."""
+    user, name = write_name(change.user.name), write_name(change.group)
     listed, local = (row is not None and change.user.name in row[1].split(b",") for row in group)
-    if listed != is_removed:
+    if listed == (change.kind == ADD_MEMBER):
         return True
     if not group.is_local():
-        raise OfService(b"group %s: is of a directory service, and not of /etc/group, so %s %s is not run: change its members there"
-                        % (name, change.kind, user))
-    if is_removed and not local:
+        raise OfService(b"group %s: is of a directory service, and not of /etc/group, so %s %s is not run: change its members "
+                        b"there" % (name, change.kind, user))
+    if listed and not local:
         raise OfService(b"group %s: user %s is a member by a directory service, and not by /etc/group: end the membership there"
                         % (name, user))
     return False
 
 
-def is_user_made(change: PeopleChange) -> bool:
-    uid, name = b"%d" % change.user.uid, b"user " + write_name(change.user.name)
-    before = None if change.kind == ADD_USER else (uid, b"%d" % change.user.gid)
-    after = None if change.kind == REMOVE_USER else (uid, b"%d" % change.gid)
-    row = look_up(b"passwd", change.user.name, change.user.uid)
+def is_made(change: PeopleChange) -> bool:
+    """Whether a change is made already; fails if the system is another one than it has to be, and with OfService if the tools
+    do not make the change."""
+    user, group, number = change.user, change.group, b"%d" % change.user.uid
+    if change.kind in MEMBERSHIPS:
+        row_with(b"passwd", user.name, user.uid)
+        return is_member_made(change, row_with(b"group", group, change.gid))
+    if group:
+        row_with(b"group", group, change.gid)
+    before = None if change.kind == ADD_USER else (number, b"%d" % user.gid)
+    after = None if change.kind == REMOVE_USER else (number, b"%d" % change.gid)
+    row, name = look_up(b"passwd", user.name, user.uid), b"user " + write_name(user.name)
     if row.found == after:
         return True
     if row.found is not None and not row.is_local() and row.found == (before or row.found):
         raise OfService(name + b": is of a directory service, and not of /etc/passwd, so %s is not run: %s the user there"
-                        % (change.tool(), b"remove" if change.kind == REMOVE_USER else b"change"))
+                        % (change.tool(), b"remove" if after is None else b"change"))
     if row.found != before:
-        shown = tuple(b":".join(it) if it else b"(none)" for it in (row.found, before))
+        shown = tuple(b":".join(it or (b"(none)",)) for it in (row.found, before))
         raise Mismatch(name + b": has the ids %s, and not %s" % shown)
     return False
 
 
-# --- there and back
+def run_tool(change: PeopleChange) -> int:
+    """Runs the tool that makes a change, to its end, also if a signal comes; returns its status."""
+    out = subprocess.DEVNULL if change.kind in MEMBERSHIPS else None
+    with signals_wait():
+        return subprocess.run([tool_of(change.tool()), *change.words()[1:]], stdout=out, env=ENVIRONMENT, check=False,
+                              preexec_fn=lambda: signal.pthread_sigmask(signal.SIG_UNBLOCK, SIGNALS)).returncode
 
 
-def make(doing: Doing, it: PeopleStep) -> None:
-    state = doing[it.number].state
-    if not is_made(it.change):
-        doing.tell(it.number, it.command())
+def do(doing: Doing, it: PeopleStep, is_undo: bool) -> None:
+    """Makes a change. What is made already, and was not begun, somebody else did: by_hand_undo leaves it."""
+    state, is_done = doing[it.number].state, is_made(it.change)
+    if not is_done:
+        doing.tell(it)
         doing.add(BEGUN, it.number)
         status = run_tool(it.change)
+        if status != 0 and is_undo:
+            raise Mismatch(it.command() + b": fails")
         if status != 0:
             raise Failure(it.command() + b": fails with the status %d" % status, abs(status))
-        doing.add(FINISHED, it.number)
-        return
-    if it.change.kind == REMOVE_USER and not state:
-        doing.command.say(b"user " + write_name(it.change.user.name) + b": is not there, or a directory service does not answer; "
-                          b"userdel has nothing to do")
-    if state != FOUND:  # Where it was not begun, somebody else did it, and by_hand_undo leaves it.
-        doing.add(FINISHED if state == BEGUN else FOUND, it.number)
-
-
-def take_back(doing: Doing, it: PeopleStep, change: PeopleChange) -> None:
-    if not is_made(change):
-        doing.tell(it.number, shown_change(change))
-        if run_tool(change) != 0:
-            raise Mismatch(shown_change(change) + b": fails")
-    doing.add(UNDONE, it.number)
+    elif it.change.kind == REMOVE_USER and not state:
+        doing.command.say(b"user " + write_name(it.change.user.name) + b": is not there, or a directory service does not "
+                          b"answer; userdel has nothing to do")
+    end = UNDONE if is_undo else FOUND if is_done and state != BEGUN else FINISHED
+    if end != state:
+        doing.add(end, it.number)
 
 
 def losses(doing: Doing, it: PeopleStep) -> Iterator[bytes]:
-    """What does not come back of a user who was removed: the row, and whose the files of the ids are. userdel removes a group of
-    the user's name."""
+    """What does not come back of a user who was removed: the row, and whose the files of the ids are. userdel removes a group
+    of the user's name."""
     user = it.change.user
     row = look_up(b"passwd", user.name, user.uid).found
     if row is not None and row[0] == b"%d" % user.uid:
         doing.add(UNDONE, it.number)
         return
     yield b"user " + write_name(user.name) + b": was removed by by_hand, and does not come back"
-    if it.owned:
-        yield holder_of(b"user", b"passwd", user.uid, it.owned)
-    if it.grouped and getent(b"group", b"--", b"%d" % user.gid)[0] != 0:
-        yield holder_of(b"group", b"group", user.gid, it.grouped)
-
-
-def holder_of(kind: bytes, database: bytes, number: int, files: int) -> bytes:
-    """Whose the files of an id are."""
-    held = {0: b"which another %s has now" % kind, NOT_FOUND: b"which has no %s now" % kind}
-    by_whom = held.get(getent(database, b"--", b"%d" % number)[0], b"and getent %s fails" % database)
-    return b"files of the snapshot that belong to the %s id %d, %s: %d" % (kind, number, by_whom, files)
+    for kind, database, number, files in ((b"user", b"passwd", user.uid, it.owned), (b"group", b"group", user.gid, it.grouped)):
+        status = getent(database, b"--", b"%d" % number)[0] if files else 0
+        held = {0: b"which another %s has now" % kind, NOT_FOUND: b"which has no %s now" % kind}
+        if files and (status or kind == b"user"):
+            by_whom = held.get(status, b"and getent %s fails" % database)
+            yield b"files of the snapshot that belong to the %s id %d, %s: %d" % (kind, number, by_whom, files)

@@ -6,6 +6,7 @@ more than two others.
 from __future__ import annotations
 
 import struct
+from functools import lru_cache
 from typing import Dict, Iterator, NamedTuple, Tuple
 
 ACCESS, DEFAULT = b"system.posix_acl_access", b"system.posix_acl_default"
@@ -13,6 +14,7 @@ HEAD = struct.pack("<I", 2)  # The version.
 ENTRY = struct.Struct("<HHI")
 USER_OBJ, USER, GROUP_OBJ, GROUP, MASK, OTHER = 0x01, 0x02, 0x04, 0x08, 0x10, 0x20
 NO_ID = 0xFFFFFFFF  # Of an entry that names nobody.
+MOST_KEPT = 1 << 14  # Lists of which it is known whether they are valid.
 NAMED = (USER, GROUP)
 ALONE = (USER_OBJ, GROUP_OBJ, OTHER)  # Each list has one entry of each of these.
 GROUP_CLASS = (USER, GROUP_OBJ, GROUP)
@@ -47,6 +49,7 @@ def bytes_of(entries: Entries) -> bytes:
                            permissions in sorted(entries.items()))
 
 
+@lru_cache(maxsize=MOST_KEPT)
 def is_valid(data: bytes) -> bool:
     """Whether bytes are a valid list (acl_valid(3)), in the order in which the program writes it."""
     try:

@@ -8,16 +8,18 @@ from __future__ import annotations
 import errno
 import os
 import stat
-from typing import Dict, List, NamedTuple, Optional
+from typing import Dict, List, NamedTuple, Optional, Tuple
 
 from . import acl_bytes, linux
 from .acl_bytes import Record
-from .linux import Beside, Identity, Status
+from .linux import Beside, Identity
 from .messages import Failure, reason
 
+PROC = b"/proc/self/fd/"
 OPEN_LIMIT = 200  # Directories of one path that are open at once.
 CAPABILITY = b"security.capability"
 FLAGS = stat.S_ISUID | stat.S_ISGID | stat.S_ISVTX
+ALL_MODE = FLAGS | 0o777
 NO_ATTRIBUTE = (errno.ENODATA, errno.ENOTSUP)
 PATH = os.O_PATH | os.O_NOFOLLOW | os.O_CLOEXEC
 
@@ -31,31 +33,36 @@ class NotFound(Exception):
 
 
 class Seen(NamedTuple):
-    """A file as it is: which file, its mode, how many names it has, its owner and group, its lists, and what counts beside
-    these."""
+    """A file as it is: which file, its mode, how many names it has, its record, and what counts beside that."""
 
-    device: int
-    inode: int
-    birth: int
+    identity: Identity
     mode: int
     names: int
-    owner: int
-    group: int
-    access: bytes
-    default: bytes
+    record: Record
     beside: Beside
-
-    @property
-    def identity(self) -> Identity:
-        return Identity(self.device, self.inode, self.birth)
-
-    @property
-    def record(self) -> Record:
-        return Record(self.owner, self.group, self.mode & FLAGS, self.access, self.default)
 
     @property
     def is_directory(self) -> bool:
         return stat.S_ISDIR(self.mode)
+
+
+class Places(Dict[int, bytes]):
+    """The names of the open files of this process, by their descriptors."""
+
+    start = PROC
+
+    def __missing__(self, descriptor: int) -> bytes:
+        self[descriptor] = self.start + b"%d" % descriptor
+        return self[descriptor]
+
+    def begin_in_own_process(self) -> None:
+        """Has a process that was forked for its work find its open files by shorter names, from the folder of them."""
+        os.chdir(PROC)
+        self.clear()
+        self.start = b""
+
+
+PLACES = Places()
 
 
 class KnownLists(Dict[bytes, bytes]):
@@ -66,7 +73,30 @@ class KnownLists(Dict[bytes, bytes]):
         return self[data]
 
 
-LISTS = KnownLists()
+class KnownRecords(Dict[Tuple[int, int, int, Optional[bytes], Optional[bytes]], Record]):
+    """Records by mode, owner, group and the two lists, as the system has them; each is one value."""
+
+    def __missing__(self, label: Tuple[int, int, int, Optional[bytes], Optional[bytes]]) -> Record:
+        mode, owner, group, access, default = label
+        self[label] = Record(owner, group, mode & FLAGS, MINIMAL[mode & 0o777] if access is None else LISTS[access],
+                             b"" if default is None else LISTS[default])
+        return self[label]
+
+
+class KnownStatuses(Dict[Tuple[int, int, bytes, int, bytes], Tuple[int, int, int, int, bool, Beside]]):
+    """What files with an owner, a group and a mode on one mount have in common, by these parts of a raw status: mode, owner, group,
+    device, whether their birth is known, and what counts beside their lists."""
+
+    def __missing__(self, its: Tuple[int, int, bytes, int, bytes]) -> Tuple[int, int, int, int, bool, Beside]:
+        known, attributes, label, says, mount = its
+        raw = known, attributes, 0, label, 0, says, 0, 0, mount
+        (mode, owner, group, _, device, _, _), beside = linux.read_status(raw)
+        has_birth = bool(known & linux.STATX_BTIME) and linux.keeps_birth(raw)
+        self[its] = mode, owner, group, device, has_birth, beside
+        return self[its]
+
+
+LISTS, RECORDS, COMMON = KnownLists(), KnownRecords(), KnownStatuses()
 MINIMAL = [acl_bytes.minimal(mode) for mode in range(0o1000)]
 
 
@@ -80,16 +110,21 @@ def attribute(name: bytes, attribute_name: bytes, follow: bool = True) -> Option
         return None
 
 
-def seen_of(status: Status, name: bytes, follow: bool = True, beside: Beside = (linux.UNKNOWN, (0, 0))) -> Seen:
-    """A file as it is, of its status and of a name for its lists; NotFound where it is a link."""
-    mode, owner, group, names, device, inode, birth = status
+def record_of(mode: int, owner: int, group: int, name: bytes, follow: bool = True) -> Record:
+    """The record of a file with a mode, whose lists a name leads to; NotFound where it is a link."""
     if stat.S_ISLNK(mode):
         raise NotFound(b"is a symbolic link now")
     access = attribute(name, acl_bytes.ACCESS, follow)
     default = attribute(name, acl_bytes.DEFAULT, follow) if stat.S_ISDIR(mode) else None
-    return Seen(device, inode, birth, mode, names, owner, group, MINIMAL[mode & 0o777] if access is None
-                else LISTS[access],
-                b"" if default is None else LISTS[default], beside)
+    return RECORDS[mode & ALL_MODE, owner, group, access, default]
+
+
+def look_by(descriptor: int, name: bytes, place: bytes, follow: bool = True) -> Seen:
+    """An open file, or what has a name in an open directory; a place leads to its lists."""
+    known, its, names, label, inode, says, seconds, nanoseconds, mount = linux.statx(descriptor, name)
+    mode, owner, group, device, has_birth, beside = COMMON[known, its, label, says, mount]
+    identity = Identity(device, inode, seconds * 1_000_000_000 + nanoseconds if has_birth else 0)
+    return Seen(identity, mode, names, record_of(mode, owner, group, place, follow), beside)
 
 
 def fixed(seen: Seen) -> Optional[bytes]:
@@ -106,19 +141,17 @@ class OpenFile:
 
     def __init__(self, descriptor: int) -> None:
         self.descriptor = descriptor
-        self.name = b"/proc/self/fd/%d" % descriptor
+        self.name = PLACES[descriptor]
 
     def close(self) -> None:
         os.close(self.descriptor)
 
     def look(self) -> Seen:
-        status, beside = linux.look_at(self.descriptor)
-        return seen_of(status, self.name, beside=beside)
+        return look_by(self.descriptor, b"", self.name)
 
     def record(self) -> Record:
         status = os.fstat(self.descriptor)
-        known = status.st_mode, status.st_uid, status.st_gid, status.st_nlink, status.st_dev, status.st_ino, 0
-        return seen_of(known, self.name).record
+        return record_of(status.st_mode, status.st_uid, status.st_gid, self.name)
 
     def mode(self) -> int:
         return os.fstat(self.descriptor).st_mode
@@ -223,8 +256,7 @@ class Opener:
         above, _, name = path.rpartition(b"/")
         try:
             folder = self.folder(above)
-            status, beside = linux.look_at(folder, name)
-            return seen_of(status, b"/proc/self/fd/%d/%s" % (folder, name), not name, beside)
+            return look_by(folder, name, PLACES[folder] + b"/" + name, not name)
         except OSError as error:
             raise not_found(error) from error
 
@@ -249,7 +281,7 @@ def check_proc() -> None:
     """Fails where files cannot be reached by their descriptors."""
     descriptor = os.open(b"/", PATH)
     try:
-        if os.stat(b"/proc/self/fd/%d" % descriptor).st_ino != os.fstat(descriptor).st_ino:
+        if os.stat(PROC + b"%d" % descriptor).st_ino != os.fstat(descriptor).st_ino:
             raise FileNotFoundError
     except OSError as error:
         raise Failure(b"/proc is not mounted, by which files are reached") from error

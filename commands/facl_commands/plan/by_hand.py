@@ -1,19 +1,20 @@
-"""What facl-apply does not do of a plan, as facl-plan writes it: the steps as data, and by_hand and by_hand_undo, which a person
-reads and runs."""
+"""What facl-apply does not do of a plan, as facl-plan writes it: the steps as data, and by_hand and by_hand_undo, which a
+person reads and runs."""
 from __future__ import annotations
 
+import itertools
 import os
-from typing import Dict, List, Optional, Tuple
+from typing import Dict, Iterator, List, Set
 
 from ..base.acl_bytes import Record
 from ..base.environment import HOME
-from ..base.linux import Identity
 from ..base.messages import counted
-from ..base.names import path_order, shell_word, shown
+from ..base.names import parent_of, path_order, shell_word, shown
 from ..base.user_tools import CHANGE_GROUP, REMOVE_USER, PeopleChange
-from ..model.records import ChangedPaths, File, Files
-from ..planned.steps import FileStep, PeopleStep, Step, Steps, line_of
-from . import chown
+from ..model.records import ChangedPaths, Files
+from ..model.snapshot import Snapshot
+from ..planned.by_hand import FileStep, PeopleStep, Step, Steps, line_of
+from .chown import files_of
 
 HEAD = b"""\
 #!/bin/sh
@@ -52,26 +53,25 @@ UNDO_HEAD = b"""\
 START = b"exec %s %s\"$0\"\n\n"  # What follows is no line of sh, which ends here.
 
 
-def steps_of(boot: str, inodes: Dict[bytes, Identity], people: List[PeopleChange], changes: ChangedPaths, old: Files, new: Files,
+def steps_of(snapshot: Snapshot, people: List[PeopleChange], changes: ChangedPaths, old: Files, new: Files,
              records: Dict[bytes, Record]) -> Steps:
-    """The steps, in their order; `records` has the record of each body of a file that is made."""
-    gone = set(changes.removed)
+    """The steps, in their order; `records` has the record of each body of a file that is made. A directory that goes has to be
+    empty by then: what was put there meanwhile stays."""
+    gone, number = set(changes.removed), itertools.count(1)
     kept = [file for path, file in old.items() if path not in gone]
-    changed = [PeopleStep(number, it, *(chown.files_of(it.user.uid, it.user.gid, kept) if it.kind == REMOVE_USER else (0, 0)))
-               for number, it in enumerate(people, 1)]
-    paths: List[Tuple[bytes, File, Optional[Record]]] = [(path, old[path], None) for path in sorted(gone, key=path_order, reverse=True)]
-    paths += [(path, new[path], records[new[path].body]) for path in sorted(changes.made, key=path_order)]
-    files = [FileStep(number, path, file.is_directory, record) for number, (path, file, record) in enumerate(paths, len(people) + 1)]
-    steps = Steps(boot, {}, changed, files)
-    return steps._replace(identities={path: inodes[path] for path in sorted(steps.looked_at()) if path in inodes})
+    users = [PeopleStep(next(number), it, *(files_of(it.user.uid, it.user.gid, kept) if it.kind == REMOVE_USER else (0, 0)))
+             for it in people]
+    files = [FileStep(next(number), path, old[path].is_directory, None) for path in sorted(gone, key=path_order, reverse=True)]
+    files += [FileStep(next(number), path, new[path].is_directory, records[new[path].body])
+              for path in sorted(changes.made, key=path_order)]
+    known = {path: snapshot.inodes[path] for path in sorted(looked_at(files)) if path in snapshot.inodes}
+    return Steps(snapshot.boot, known, users, files)
 
 
-def commands_of(people: List[PeopleChange], changes: ChangedPaths, old: Files, new: Files) -> List[bytes]:
-    """What is to be done, a command each, in the order of by_hand. A directory that goes has to be empty by then: what was put
-    there meanwhile stays."""
-    nothing = Record(0, 0, 0, b"", b"")
-    steps = steps_of("-", {}, people, changes, old, new, {file.body: nothing for file in new.values()})
-    return [it.command() for it in steps.all()]
+def looked_at(files: List[FileStep]) -> Set[bytes]:
+    """The files of the snapshot that are compared: those that go, and the folders of these and of what is made."""
+    removed, made = ({it.path for it in files if (it.record is not None) == is_made} for is_made in (False, True))
+    return removed | {parent_of(path) for path in removed | made} - made
 
 
 # --- what a person reads
@@ -80,15 +80,9 @@ def commands_of(people: List[PeopleChange], changes: ChangedPaths, old: Files, n
 def what(steps: Steps) -> bytes:
     """What by_hand is about."""
     nouns = ((len(steps.people), "change of users and groups", "changes of users and groups"),
-             (len(steps.removed), "file or directory goes", "files and directories go"),
-             (len(steps.made), "file or directory is made", "files and directories are made"))
+             (len(steps.of(False)), "file or directory goes", "files and directories go"),
+             (len(steps.of(True)), "file or directory is made", "files and directories are made"))
     return b", ".join(counted(*it) for it in nouns if it[0])
-
-
-def start_of(head: bytes, steps: Steps, option: bytes) -> bytes:
-    is_blind = len(steps.identities) < len(steps.looked_at())
-    command = shell_word(os.path.join(os.fsencode(HOME), b"facl-by-hand"))
-    return head % {b"what": what(steps), b"blind": BLIND * is_blind} + START % (command, option)
 
 
 def details(it: Step, new: Files) -> List[bytes]:
@@ -102,15 +96,14 @@ def details(it: Step, new: Files) -> List[bytes]:
     return [b"user id %d, group id %s%d" % (it.change.user.uid, before, it.change.gid)]
 
 
-def script_of(steps: Steps, new: Files) -> bytes:
-    """by_hand; empty where there is nothing to do."""
-    lines = [line for it in steps.all()
-             for line in (line_of(it.number, it.command()), *(b"#       " + shown(text) for text in details(it, new)))]
-    return start_of(HEAD, steps, b"") + b"\n".join(lines) + b"\n" if lines else b""
-
-
-def undo_script_of(steps: Steps) -> bytes:
-    """by_hand_undo; empty where by_hand does nothing."""
-    back = {number: line for line, number in steps.lines_back().items()}
-    lines = [back.get(it.number, b"# is not taken back: " + shown(it.command())) for it in reversed(steps.all()) if it.not_done() is None]
-    return start_of(UNDO_HEAD, steps, b"--undo ") + b"\n".join(lines) + b"\n" if lines else b""
+def scripts_of(steps: Steps, new: Files) -> Iterator[bytes]:
+    """by_hand and by_hand_undo; each is empty where it has nothing to do."""
+    lines = [line for it in steps.way() for line in (line_of(it), *(b"#       " + shown(text) for text in details(it, new)))]
+    known = {it.number: line_of(it) for it in steps.way(is_undo=True)}
+    back = [known.get(it.number, b"# is not taken back: " + shown(it.command()))
+            for it in reversed(steps.way()) if it.not_done() is None]
+    is_blind = len(steps.identities) < len(looked_at(steps.files))
+    command = shell_word(os.path.join(os.fsencode(HOME), b"facl-by-hand"))
+    for head, option, found in ((HEAD, b"", lines), (UNDO_HEAD, b"--undo ", back)):
+        start = head % {b"what": what(steps), b"blind": BLIND * is_blind} + START % (command, option)
+        yield start + b"\n".join(found) + b"\n" if found else b""

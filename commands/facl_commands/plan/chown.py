@@ -33,16 +33,9 @@ class ChownLine(NamedTuple):
     """What a line asks for."""
 
     is_recursive: bool
-    user: Optional[bytes]  # None: the owner stays.
-    group: Optional[bytes]  # None: the group stays; empty: the user's primary group.
+    uid: Optional[int]  # None: the owner stays.
+    gid: Optional[int]  # None: the group stays.
     files: List[bytes]  # As they are written, with their quotes.
-
-
-class NewIds(NamedTuple):
-    """The new owner and group; None stays."""
-
-    uid: Optional[int]
-    gid: Optional[int]
 
 
 def restoring(session: Session, people: People, unit: Unit) -> Union[Unit, bytes]:
@@ -53,13 +46,12 @@ def restoring(session: Session, people: People, unit: Unit) -> Union[Unit, bytes
     except UnicodeDecodeError:
         return unit  # The program says so.
     try:
-        line = read_line(unit)
-        ids = read_ids(line, people)
+        line = read_line(unit, people)
         files = ask_files(session, line)
     except Refused as refused:
         is_of_line = refused.text.startswith(message_of(PROGRAM, b""))
         return refused.text if is_of_line else message_of(unit.words[0], refused.text)
-    changed = changed_files(session, line, files, ids)
+    changed = changed_files(session, line, files)
     text = write_records(changed, changed)
     if len(text) > TEXT_LIMIT:
         return message_of(unit.words[0], TOO_MANY_FILES)
@@ -69,10 +61,8 @@ def restoring(session: Session, people: People, unit: Unit) -> Union[Unit, bytes
 # --- the words of a line
 
 
-def read_line(unit: Unit) -> ChownLine:
+def read_line(unit: Unit, people: People) -> ChownLine:
     """The words of a line; an option may be anywhere before --, and once."""
-    if takes_text(unit.words):
-        raise Refused(USAGE)
     options, operands = [], []
     is_ended = False
     for word, written in zip(unit.words[1:], WORD.findall(unit.lines[0])[1:]):
@@ -82,33 +72,22 @@ def read_line(unit: Unit) -> ChownLine:
             is_ended = True
         else:
             options.append(word)
-    if len(options) > 1 or not OPTIONS[unit.tool()].issuperset(options) or len(operands) < 2:
+    if takes_text(unit.words) or len(options) > 1 or not OPTIONS[unit.tool()].issuperset(options) or len(operands) < 2:
         raise Refused(USAGE)
-    user, group = read_owner(unit.words[0], operands[0][0])
-    return ChownLine(bool(options), user, group, [written for _, written in operands[1:]])
+    ids = read_ids(unit.words[0], operands[0][0], people)
+    return ChownLine(bool(options), *ids, [written for _, written in operands[1:]])
 
 
-def read_owner(tool: bytes, word: bytes) -> Tuple[Optional[bytes], Optional[bytes]]:
-    """USER, USER:GROUP, USER: or :GROUP; of chgrp GROUP."""
-    if ALL[tool].operands.startswith("GROUP"):
-        user, colon, group = b"", b":", word
-    else:
-        user, colon, group = word.partition(b":")
-    is_login_group = bool(colon) and not group
-    if not user and not group or is_login_group and read_name(user.strip(b" \t")).isdigit():
+def read_ids(tool: bytes, word: bytes, people: People) -> Tuple[Optional[int], Optional[int]]:
+    """The new owner and group of USER, USER:GROUP, USER: or :GROUP; of chgrp GROUP. USER: has the user's primary group."""
+    user, colon, group = (b"", b":", word) if ALL[tool].operands.startswith("GROUP") else word.partition(b":")
+    of_login = bool(colon) and not group
+    if not user and not group or of_login and read_name(user.strip(b" \t")).isdigit():
         raise Refused(USAGE)
-    return user or None, group if colon else None
-
-
-def read_ids(line: ChownLine, people: People) -> NewIds:
-    uid = gid = None
-    if line.user is not None:
-        uid = read_id(line.user, ((user.name, user.uid) for user in people.users), NO_USER)
-    if line.user is not None and line.group == b"":
-        gid = read_id(line.user, ((user.name, user.gid) for user in people.users), NO_USER)
-    elif line.group is not None:
-        gid = read_id(line.group, ((group.name, group.gid) for group in people.groups), NO_GROUP)
-    return NewIds(uid, gid)
+    uid = read_id(user, ((it.name, it.uid) for it in people.users), NO_USER) if user else None
+    if of_login:
+        return uid, read_id(user, ((it.name, it.gid) for it in people.users), NO_USER)
+    return uid, read_id(group, ((it.name, it.gid) for it in people.groups), NO_GROUP) if group else None
 
 
 def read_id(word: bytes, rows: Iterable[Tuple[bytes, int]], fault: bytes) -> int:
@@ -147,7 +126,7 @@ def fault_of(message: bytes, place: int) -> bytes:
     return fault if operand is None else b"operand %d" % (int(operand[1]) + place) + operand[2]
 
 
-def changed_files(session: Session, line: ChownLine, files: Files, ids: NewIds) -> Files:
+def changed_files(session: Session, line: ChownLine, files: Files) -> Files:
     """The files whose records change, with the new ones; files with one record are looked at once."""
     known: Dict[Tuple[bytes, bool], File] = {}
     found: Files = {}
@@ -156,15 +135,16 @@ def changed_files(session: Session, line: ChownLine, files: Files, ids: NewIds) 
         keeps_flags = file.is_directory or is_unknown and asks_as_directory(session, path)
         new = known.get((file.body, keeps_flags))
         if new is None:
-            new = known[file.body, keeps_flags] = File(False, new_body(file.body, keeps_flags, ids))
+            new = known[file.body, keeps_flags] = File(False, new_body(file.body, keeps_flags, line))
         if new.body != file.body:
             found[path] = new
     return found
 
 
-def new_body(body: bytes, keeps_flags: bool, ids: NewIds) -> bytes:
+def new_body(body: bytes, keeps_flags: bool, line: ChownLine) -> bytes:
     record = read_record(body)
-    owner, group = (now if new is None else b"%d" % new for now, new in zip(record[:2], ids))
+    owner, group = (now if new is None else b"%d" % new
+                    for now, new in ((record.owner, line.uid), (record.group, line.gid)))
     return head_lines(owner, group, record.flags if keeps_flags else flags_after_chown(record.flags, record.group_class())) + lists_of(body)
 
 

@@ -15,15 +15,14 @@ from ..model.entries import read_record
 from ..model.everybody import SHOWN, Everybody, SnapshotTexts, answers_over, session_with
 from ..model.gains import ask_gains
 from ..model.marks import alone, marks_of, not_judged, obstacles
-from ..model.records import ChangedPaths, Listing, compare, write_records
+from ..model.records import ChangedPaths, compare
 from ..model.snapshot import Snapshot, read_snapshot
 from ..model.superuser import superusers_among
 from ..planned import plan_folder
-from ..planned.steps import text_of
+from ..planned.by_hand import NO_STEPS, SCRIPTS, STEPS, Steps, text_of
 from ..program.scripts import Script, Unit, read_text
-from ..program.session import Session
 from . import chown, no_gain
-from .records_file import ask_records, work_text
+from .records_file import ask_records, file_texts
 from .replay import Replay, list_below
 from .report import answers_text, json_report, kinds_of, text_report
 from .report import Outcome as Outcome
@@ -79,17 +78,6 @@ def superusers_of(*sides: people.People) -> Set[bytes]:
     return set(map(write_user, superusers_among((user.name, user.uid) for side in sides for user in side.users)))
 
 
-def find_no_gain(session: Session, program: str, snapshot: Snapshot, old: Listing, new: Listing,
-                 people_before: people.People, run: Replay, left_out: Set[bytes], is_whole: bool) -> List[no_gain.NoGain]:
-    """Asks what is granted by the records that come into it, by files of their own."""
-    bodies = no_gain.bodies_to_judge(old.files, new.files, no_gain.has_joined(people_before, run.people))
-    lines = label_answers.PeopleTexts(snapshot.passwd, snapshot.group, run.changes_of_people)
-    before, after = label_answers.ask_vectors(program, lines, bodies)
-    sides = [no_gain.Side(listing.files, rights.answers_of(listing, *its), who) for listing, its, who in
-             ((old, before, people_before), (new, after, run.people))]
-    return no_gain.find(session, sides[0], sides[1], left_out, is_whole)
-
-
 def with_else_first(changes: rights.RightsChanges, everybody: Everybody) -> rights.RightsChanges:
     """The changes of each file, with those of everybody else before those of users."""
     for group in changes.groups:
@@ -120,8 +108,9 @@ def answer_scripts(given: argparse.Namespace, snapshot: Snapshot, units: List[Un
         kinds = kinds_of(gains, users, left_out)
         if before is not None:
             changes = with_else_first(rights.changes(before, rights.ask_rights(session, new), along_paths, left_out), everybody)
-        closed = find_no_gain(session, program, snapshot, old, new, people_before, run, left_out,
-                              is_whole) if along_paths else []
+        texts = label_answers.PeopleTexts(snapshot.passwd, snapshot.group, run.changes_of_people)
+        sides = no_gain.Side(old.files, people_before), no_gain.Side(new.files, run.people)
+        closed = no_gain.find(session, program, texts, *sides, left_out, is_whole) if along_paths else []
     left = chown.left_behind(people_before, run.people, new.files)
     return Outcome(old.files, new.files, kinds, changes, closed, users, run.asked, run.messages, run.commands, left,
                    is_whole, meta.meta_of(snapshot.folder))
@@ -199,37 +188,35 @@ def say_unknown(command: Command, source: sources.Source) -> bool:
     return is_whole
 
 
-def commands_by_hand(outcome: Outcome, changes: ChangedPaths) -> List[bytes]:
+def steps_by_hand(program: str, snapshot: Snapshot, outcome: Outcome, changes: ChangedPaths) -> Steps:
+    """What facl-apply does not do."""
     if not outcome.commands and not changes.made and not changes.removed:
-        return []
-    from .by_hand import commands_of  # Few plans need it.
-
-    return commands_of(outcome.commands, changes, outcome.old, outcome.new)
-
-
-def hand_files(program: str, snapshot: Snapshot, outcome: Outcome, changes: ChangedPaths, comments: bytes) -> Dict[bytes, bytes]:
-    """The files of what facl-apply does not do, which are empty where there is nothing."""
-    if not outcome.commands and not changes.made and not changes.removed:
-        return dict.fromkeys((b"steps", b"by_hand", b"by_hand_undo"), b"")
-    from . import by_hand  # Few plans need it.
+        return NO_STEPS
+    from .by_hand import steps_of  # Few plans need it.
 
     bodies = [outcome.new[path].body for path in changes.made]
-    steps = by_hand.steps_of(snapshot.boot, snapshot.inodes, outcome.commands, changes, outcome.old, outcome.new,
-                             ask_records(program, bodies) if bodies else {})
-    return {b"steps": text_of(steps), b"by_hand": by_hand.script_of(steps, outcome.new) + comments,
-            b"by_hand_undo": by_hand.undo_script_of(steps)}
+    records = ask_records(program, bodies) if bodies else {}
+    return steps_of(snapshot, outcome.commands, changes, outcome.old, outcome.new, records)
+
+
+def hand_files(steps: Steps, outcome: Outcome) -> Dict[bytes, bytes]:
+    """The files of what facl-apply does not do, which are empty where there is nothing."""
+    if steps is NO_STEPS:
+        return dict.fromkeys((STEPS, *SCRIPTS), b"")
+    from .by_hand import scripts_of  # Few plans need it.
+
+    script, undo = scripts_of(steps, outcome.new)
+    comments = [line + b"\n" for left in outcome.left for line in chown.comments(left)]
+    return {STEPS: text_of(steps), **dict(zip(SCRIPTS, (script + b"".join(comments), undo)))}
 
 
 def plan_files(
-    program: str, snapshot: Snapshot, scripts: List[Script], outcome: Outcome, changes: ChangedPaths
+    program: str, snapshot: Snapshot, scripts: List[Script], outcome: Outcome, changes: ChangedPaths, steps: Steps
 ) -> Dict[bytes, bytes]:
-    comments = [line + b"\n" for left in outcome.left for line in chown.comments(left)]
     return {
         b"edits": b"".join(text + b"\n" * (text[-1:] not in (b"", b"\n")) for _, text in scripts),
-        b"old": write_records(outcome.old, changes.changed),
-        b"new": write_records(outcome.new, changes.changed),
-        b"files": work_text(program, snapshot, changes, outcome.old, outcome.new),
-        **hand_files(program, snapshot, outcome, changes, b"".join(comments)),
+        **file_texts(program, snapshot, changes, outcome.old, outcome.new),
+        **hand_files(steps, outcome),
         meta.NAME: meta.text_of(snapshot.folder),
     }
 
@@ -258,21 +245,23 @@ def plan_over(command: Command, given: argparse.Namespace, source: sources.Sourc
     is_whole = say_unknown(command, source)
     outcome = answer_scripts(given, snapshot, units, is_whole, given.full)
     changes = compare(outcome.old, outcome.new)
-    commands = commands_by_hand(outcome, changes if is_whole else ChangedPaths([], [], []))
+    steps = steps_by_hand(find_program(given), snapshot, outcome, changes if is_whole else ChangedPaths([], [], []))
+    commands = [it.command() for it in steps.way()]
     say_messages(command, outcome, scripts)
     if not given.json:
         command.write(answers_text(outcome.asked))
     has_work = bool(changes.changed or changes.made or changes.removed or commands)
     is_shown = not say_refused(command, outcome, given.keep_going) and has_work
     written = name if is_shown and is_whole else None
-    stuck = obstacles(marks_of(snapshot.folder), changes)
+    marks = marks_of(snapshot.folder)
+    stuck = obstacles(marks, changes) if marks.own or marks.mounts else {}
     if given.acl5:
         command.say(overview.by_acl5(judged_otherwise(outcome)))
     if is_shown:
         warn_of_stuck(command, stuck, changes, outcome)
     if written is not None:
         check_inodes(snapshot, changes)
-        files = plan_files(find_program(given), snapshot, scripts, outcome, changes)
+        files = plan_files(find_program(given), snapshot, scripts, outcome, changes, steps)
         kept = plan_folder.write_plan(target, files, group)
         if kept is not None:
             command.say(b"kept the earlier plan as " + kept)

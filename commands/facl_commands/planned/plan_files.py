@@ -4,13 +4,14 @@ from __future__ import annotations
 
 import contextlib
 import json
-from typing import Dict, Iterator, List, NamedTuple, Optional
+import operator
+from typing import Any, Dict, Iterable, Iterator, List, NamedTuple, Sequence, Tuple
 
 from ..base import acl_bytes
 from ..base.acl_bytes import Record
 from ..base.linux import Identity
 from ..base.messages import Failure
-from ..base.names import path_order
+from ..base.names import sorting_key
 
 ALL_FLAGS = 0o7000
 NOWHERE = Identity(0, 0, 0)  # Of a file of a snapshot without inodes.
@@ -50,32 +51,35 @@ def read_record(fields: List[object]) -> Record:
     return record
 
 
-def whole_of(field: object) -> int:
+def number_of(field: object) -> int:
     if not isinstance(field, int):
         raise TypeError
+    if field < 0:
+        raise ValueError
     return field
 
 
-def number_of(field: object) -> int:
-    if whole_of(field) < 0:
-        raise ValueError
-    return whole_of(field)
+def rows_text(paths: Iterable[bytes], numbers: Iterable[Sequence[int]], count: int) -> str:
+    """Rows of a path and so many numbers, as JSON."""
+    names = json.dumps([path.decode("latin-1") for path in paths], separators=("\n", ":"))[1:-1].split("\n")
+    form = "[%s" + ",%d" * count + "]"
+    return "[" + ",".join([form % (name, *row) for name, row in zip(names, numbers)]) + "]"
 
 
-def identity_of(fields: List[object]) -> Identity:
-    """Which file it has to be: a birth before 1970 is negative."""
-    device, inode, birth = map(whole_of, fields)
-    return Identity(device, inode, birth)
+def columns_of(rows: object, count: int) -> Tuple[List[bytes], List[Sequence[int]]]:
+    """The paths of rows, and their columns of so many numbers; ValueError or TypeError where they are none."""
+    if not isinstance(rows, list) or not set(map(len, rows)) <= {count + 1}:
+        raise TypeError
+    columns: List[Sequence[Any]] = list(zip(*rows)) if rows else [[] for _ in range(count + 1)]
+    if not set().union(*(map(type, column) for column in columns[1:])) <= {int, bool}:
+        raise TypeError
+    return [name.encode("latin-1") for name in columns[0]], columns[1:]
 
 
-def read_file(fields: List[object], records: List[Record]) -> PlannedFile:
-    """A file of a plan, without its path: it changes, and has a default list only where it is a directory."""
-    kind, *identity, same, old, new = fields
-    file = PlannedFile(bool(number_of(kind)), identity_of(identity), number_of(same), records[number_of(old)],
-                       records[number_of(new)])
-    if file.old == file.new or not file.is_directory and (file.old.default or file.new.default):
-        raise ValueError
-    return file
+def identities_of(rows: object) -> Dict[bytes, Identity]:
+    """Which file each path has to be of: a birth before 1970 is negative."""
+    paths, (devices, inodes, births) = columns_of(rows, 3)
+    return dict(zip(paths, map(Identity, devices, inodes, births)))
 
 
 @contextlib.contextmanager
@@ -91,20 +95,36 @@ def read_work(name: bytes, text: bytes) -> Work:
     """What work_text wrote; each path once, in path order."""
     with as_written(name, b"facl plan wrote; make the plan again"):
         fields = json.loads(text)
-        boot, rows = fields["boot"], fields["files"]
         records = [read_record(row) for row in fields["records"]]
-        files = {row[0].encode("latin-1"): read_file(row[1:], records) for row in rows}
-        paths = list(files)
-        if not isinstance(boot, str) or not isinstance(rows, list) or len(paths) != len(rows):
+        paths, (kinds, devices, inodes, births, sames, olds, news) = columns_of(fields["files"], 7)
+        least = min(min(column, default=0) for column in (kinds, sames, olds, news))
+        if not isinstance(fields["boot"], str) or not are_in_order(paths) or least < 0:
             raise ValueError
-        if paths != sorted(paths, key=path_order) or not all(map(is_path, paths)):
-            raise ValueError
-        return Work(boot, files)
+        for kind, old, new in set(zip(kinds, olds, news)):
+            check_change(bool(kind), records[old], records[new])
+        files = map(PlannedFile, map(bool, kinds), map(Identity, devices, inodes, births), sames,
+                    map(records.__getitem__, olds), map(records.__getitem__, news))
+        return Work(fields["boot"], dict(zip(paths, files)))
+
+
+def check_change(is_directory: bool, old: Record, new: Record) -> None:
+    """Fails where a file does not change, or has a default list and is no directory."""
+    if old == new or not is_directory and (old.default or new.default):
+        raise ValueError
+
+
+def are_in_order(paths: List[bytes]) -> bool:
+    """Whether paths are in path order, each once, and none has a component that is empty or leads elsewhere."""
+    keys = list(map(sorting_key, paths))
+    named = paths[1:] if paths[:1] == [b""] else paths  # The root has no component.
+    text = b"/" + b"/\0/".join(named) + b"/" * bool(named)
+    return (all(map(operator.lt, keys, keys[1:])) and text.count(b"\0") == max(0, len(named) - 1)
+            and not any(part in text for part in (b"//", b"/./", b"/../")))
 
 
 def is_path(path: bytes) -> bool:
     """Whether no component is empty or leads elsewhere."""
-    return path == b"" or not {b"", b".", b".."} & set(path.split(b"/")) and b"\0" not in path
+    return are_in_order([path])
 
 
 # --- the journal
@@ -116,15 +136,13 @@ class Journal(NamedTuple):
 
 
 def journal_text(boot: str, files: Dict[bytes, Identity]) -> bytes:
-    rows = [[path.decode("latin-1"), *identity] for path, identity in files.items()]
-    return json.dumps({"boot": boot, "files": rows}, separators=(",", ":")).encode() + b"\n"
+    return b'{"boot":%s,"files":%s}\n' % (json.dumps(boot).encode(), rows_text(files, files.values(), 3).encode())
 
 
 def read_journal(name: bytes, text: bytes) -> Journal:
     with as_written(name, b"facl apply wrote"):
         fields = json.loads(text)
-        files = {path.encode("latin-1"): identity_of(identity) for path, *identity in fields["files"]}
-        return Journal(str(fields["boot"]), files)
+        return Journal(str(fields["boot"]), identities_of(fields["files"]))
 
 
 class Devices:
@@ -147,8 +165,3 @@ class Devices:
         if recorded not in self.present and seen in self.present.values():
             return False
         return self.present.setdefault(recorded, seen) == seen
-
-
-def recorded_identity(path: bytes, file: PlannedFile, journal: Optional[Journal]) -> Identity:
-    """Which file a path has to be of: that of the journal, else that of the snapshot."""
-    return file.identity if journal is None else journal.files.get(path, file.identity)

@@ -105,7 +105,7 @@ class Service:
 
     def __init__(self) -> None:
         self.until: Optional[float] = None
-        self.unasked = 0  # Keys that were not asked for, or not answered.
+        self.unasked = 0  # Keys that were not looked up, or not answered.
 
     def listed(self, what: Callable[[], List[Account]], kind: str) -> List[Account]:
         rows = in_time(lambda: [tuple(it) for it in what()], float("inf"))

@@ -7,6 +7,7 @@ from functools import partial
 from typing import IO, Generator, Iterator, List, Optional
 
 from ..base import workers
+from ..base.live import PLACES
 from ..base.workers import Helper, receive, send
 from .runs import LeftOut, Run
 from .walking import MANY, START_OF_ALL, Rest, Walked, Walker
@@ -81,7 +82,7 @@ class Follower(Helper):
         self.errand: Optional[Errand] = None
         come, go = os.pipe()
         self.come, self.errands = open(come, "rb"), open(go, "wb")
-        super().__init__(walker.has_own_process, keeps_signals=False)
+        super().__init__(PLACES.begin_in_own_process, keeps_signals=False)
         self.come.close()
 
     def answer(self, file: IO[bytes]) -> None:

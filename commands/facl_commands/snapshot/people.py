@@ -34,7 +34,7 @@ class Accounts:
         return b"".join(it.row() + b"\n" for it in self.all)
 
     def ask(self, keys: AbstractSet[Key]) -> bool:
-        """Asks for those that were not asked for yet, and adds them at the end; whether there is one that was not known."""
+        """Looks up those that were not looked up yet, and adds them at the end; whether there is one that was not known."""
         new = sorted(keys - self.asked, key=lambda key: (isinstance(key, bytes), key))
         self.asked.update(new)
         rows = [Account(*it) for it in self.service.ask(self.look_up, new)]
@@ -53,11 +53,11 @@ class PeopleOfSystem:
         self.service = Service()
         self.users = Accounts(self.service, asking.user_by, self.service.listed(asking.all_users, "users"))
         self.groups = Accounts(self.service, asking.group_by, self.service.listed(asking.all_groups, "groups"))
-        self.memberships: Set[Tuple[int, bytes]] = set()  # Of users that were asked for: group and name.
-        self.listed = len(self.users.all)  # Users that are listed, or whose groups were asked for.
+        self.memberships: Set[Tuple[int, bytes]] = set()  # Of users that were looked up: group and name.
+        self.listed = len(self.users.all)  # Users that are listed, or whose groups were looked up.
 
     def add_named(self, name: bytes) -> None:
-        """Asks for the users whom a file names, a name a line; fails where one is not known. The file may be a secret one: no
+        """Looks up the users whom a file names, a name a line; fails where one is not known. The file may be a secret one: no
         message has its lines."""
         with failing(name + b": cannot be read"), open(name, "rb") as file:
             lines = trusted.read_all(file, name, trusted.MOST_WRITTEN).split(b"\n")
@@ -70,7 +70,7 @@ class PeopleOfSystem:
         fail_of_line(name, lines, lambda line: line not in known, b"no such user")
 
     def complete(self, sums: Sums) -> None:
-        """Asks for all that files and groups name, until nobody new is found: first for owners, since anybody can write ids into a
+        """Looks up all that files and groups name, until nobody new is found: owners first, since anybody can write ids into a
         list."""
         is_new = True
         while is_new:
@@ -90,7 +90,7 @@ class PeopleOfSystem:
         return {name for it in self.groups.all for name in it.members if name}
 
     def add_members(self) -> None:
-        """Adds users that were asked for to the rows of their groups that lack them."""
+        """Adds users that were looked up to the rows of their groups that lack them."""
         known = {(it.ids[0], name) for it in self.groups.all for name in it.members}
         known |= {(it.ids[1], it.name) for it in self.users.all}
         more: Dict[int, List[bytes]] = {}

@@ -11,12 +11,12 @@ import re
 import stat
 from itertools import islice
 from operator import attrgetter
-from typing import Dict, Iterator, List, NamedTuple, Optional, Tuple
+from typing import Iterator, List, NamedTuple, Optional, Tuple
 
 from ..base import acl_bytes, linux, live
 from ..base.beside import PLAIN
 from ..base.linux import ATTRIBUTES, STATX_BTIME
-from ..base.live import NotFound, Opener
+from ..base.live import PLACES, NotFound, Opener
 from ..base.messages import Failure, reason
 from . import scope as scopes
 from .list_texts import NoList, shown_name
@@ -31,7 +31,6 @@ DEEPEST = 100  # Directories in one another that it has open.
 SORTED_AT_ONCE = 50_000  # Names of a directory.
 SECOND = 1_000_000_000  # Nanoseconds.
 LONGEST_PART = 255  # Bytes of a name in a directory.
-PROC = b"/proc/self/fd/"
 PLAIN_FILE = stat.S_IFREG >> 8  # In the last byte of a label.
 ACCESS, DEFAULT = acl_bytes.ACCESS.decode(), acl_bytes.DEFAULT.decode()
 NAME = attrgetter("name")
@@ -130,27 +129,11 @@ def raw_status(descriptor: int, device: int) -> linux.Raw:
         return (*raw[:3], linux.LABEL.pack(0, 0, stat.S_IFDIR), *raw[4:])
 
 
-class Places(Dict[int, bytes]):
-    """The names of open files, by their descriptors."""
-
-    start = PROC
-
-    def __missing__(self, descriptor: int) -> bytes:
-        self[descriptor] = self.start + b"%d" % descriptor
-        return self[descriptor]
-
-
 class Walker:
     """Walks through what a scope has."""
 
     def __init__(self, scope: Scope) -> None:
-        self.scope, self.opener, self.mounts, self.places = scope, Opener(), KnownMounts(), Places()
-
-    def has_own_process(self) -> None:
-        """Finds open files by shorter names, from the folder of them."""
-        os.chdir(PROC)
-        self.places.clear()
-        self.places.start = b""
+        self.scope, self.opener, self.mounts = scope, Opener(), KnownMounts()
 
     def walk(self, rests: List[Rest]) -> Walked:
         """Looks at the names of some directories, and at what is below them, until there are many."""
@@ -249,7 +232,7 @@ class Walker:
         """Records plain files of the mount of their directory, up to a name of something else, or of which something cannot be read;
         returns how many these are."""
         rows: List[Row] = []
-        places, labels, folder = self.places, self.draft.labels, level.descriptor
+        places, labels, folder = PLACES, self.draft.labels, level.descriptor
         room, start = MOST_TEXT - self.draft.size, len(FILE) + len(level.rest.path)
         for name in names:
             try:
@@ -312,7 +295,7 @@ class Walker:
     def record(self, rest: Rest, name: bytes, descriptor: int, raw: linux.Raw, known: KnownMount) -> bytes:
         """Records an open file, and returns how it is mounted; without a list that can be recorded it is not."""
         (mode, _, _, links, device, inode, birth), (attributes, _) = linux.read_status(raw)
-        place, is_folder = self.places[descriptor], stat.S_ISDIR(mode)
+        place, is_folder = PLACES[descriptor], stat.S_ISDIR(mode)
         word, lines, bits = marked(name, mode, attributes, known, rest.mount)
         names = attributes_of(place)
         bits |= (other_lists(place, names) if names != [] else 0) | (IS_FOLDER if is_folder else SEVERAL if links > 1 else 0)
@@ -331,7 +314,7 @@ class Walker:
         names, number, leading = b"", 0, self.scope.leading(rest.path)
         if rest.is_inside:
             try:
-                names, number = sorted_names(self.places[descriptor])
+                names, number = sorted_names(PLACES[descriptor])
             except OSError as error:
                 self.complain(rest.path, error, b"cannot be read: ")
         if leading:
