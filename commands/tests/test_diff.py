@@ -3,6 +3,7 @@ from __future__ import annotations
 
 import json
 import os
+import random
 import re
 import shutil
 import signal
@@ -16,8 +17,9 @@ from common import COMMANDS, Case, Done, restore_signals
 
 sys.path.insert(0, COMMANDS)
 
+from facl_commands.base.names import path_order  # noqa: E402
 from facl_commands.questions.diff.reasons import decided_by, words_of_list  # noqa: E402
-from facl_commands.questions.diff.states import pairs_of  # noqa: E402
+from facl_commands.questions.diff.states import Pair, RecordReader, pairs_of  # noqa: E402
 
 PAIR = ("before", "after")
 NOTHING = b"nothing differs: the same users, groups of users, files and ACLs\n"
@@ -529,11 +531,30 @@ class Records(unittest.TestCase):
             return [b"# file: " + name for name in names]
 
         old, new = listing(b".", b"a", b"a/b", b"a b", b"c"), listing(b".", b"a/", b"a b", b"c", b"c/d")
-        pairs = {pair.path: pair for pair in pairs_of(iter(old), iter(new))}
+        pairs = {pair.path: pair for pair in self.pairs(old, new)}
         self.assertEqual(sorted(pairs), [b"a", b"a/b", b"c", b"c/d"])
         self.assertFalse(pairs[b"a"].is_of_other_kind())
         self.assertTrue(pairs[b"c"].is_of_other_kind())
-        self.assertEqual(list(pairs_of(iter(old), iter(old))), [])
+        self.assertEqual(self.pairs(old, old), [])
+
+    def pairs(self, old: List[bytes], new: List[bytes], size: int = 1000, is_all: bool = False) -> List[Pair]:
+        """Those of listings that come so many records at once."""
+        readers = [RecordReader(iter([it[place : place + size] for place in range(0, len(it), size)])) for it in (old, new)]
+        return list(pairs_of(readers[0], readers[1], is_all))
+
+    def test_what_is_the_same_is_passed_over(self) -> None:
+        """The pairs are those among all paths that differ, also where much is the same between them."""
+        for seed in range(60):
+            chance = random.Random(seed)
+            paths = sorted({b"/".join(chance.choice([b"a", b"b", b"a b", b"c-d"]) + b"%d" % chance.randrange(9)
+                                      for _ in range(chance.randrange(1, 4))) for _ in range(chance.choice([5, 400]))}, key=path_order)
+            sides: List[List[bytes]] = []
+            for _ in range(2):
+                there = [path for path in paths if chance.random() > 0.01]
+                sides.append([b"# file: %s%s\n# owner: %d" % (path, b"/" * (chance.random() < 0.005), chance.random() < 0.01) for path in there])
+            found = self.pairs(sides[0], sides[1], chance.choice([1, 7, 50, 1000]))
+            self.assertEqual(found, [it for it in self.pairs(sides[0], sides[1], is_all=True)
+                                     if (it.old and it.old.record) != (it.new and it.new.record) or it.is_of_other_kind()], seed)
 
 
 if __name__ == "__main__":

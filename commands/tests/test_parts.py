@@ -5,6 +5,7 @@ import os
 import random
 import subprocess
 import sys
+import tempfile
 import unittest
 from typing import Dict, List
 from unittest import mock
@@ -13,13 +14,15 @@ from common import COMMANDS, HERE, Case
 
 sys.path.insert(0, COMMANDS)
 
-from facl_commands.base import names, user_tools  # noqa: E402
+from facl_commands.base import folders, names, user_tools  # noqa: E402
 from facl_commands.base.messages import Failure  # noqa: E402
 from facl_commands.base.programs import LINUX  # noqa: E402
-from facl_commands.model import entries, everybody, overview, people, records, sources, split_tree, superuser  # noqa: E402
+from facl_commands.model import (  # noqa: E402
+    entries, everybody, file_columns, overview, people, records, snapshot, sources, split_tree, superuser,
+)
 from facl_commands.plan import hard_links  # noqa: E402
 from facl_commands.program import scripts, tools  # noqa: E402
-from facl_commands.program.session import Session  # noqa: E402
+from facl_commands.program.session import OutputSlice, Session  # noqa: E402
 
 
 class Names(unittest.TestCase):
@@ -68,6 +71,45 @@ class Names(unittest.TestCase):
 
     def test_json(self) -> None:
         self.assertEqual(names.json_text("é\\134".encode() + b"\xe9"), "é\\134\\351")
+
+
+class SnapshotTexts(unittest.TestCase):
+    """The texts of snapshots, looked through in parts."""
+
+    def test_a_dump_in_pieces(self) -> None:
+        for seed in range(100):
+            chance = random.Random(seed)
+            lines = [b"# file: /a\n", b"x\n", b"\n", b"# file: b/\n", b"  #file:c\n", b"a long line of file: x"]
+            text = b"".join(chance.choice(lines) for _ in range(chance.randrange(12)))
+            with folders.kept(), mock.patch.object(sources, "SMALL_PIECE", chance.choice([1, 3, 7, 50])):
+                folder = folders.Folder(b"/texts/")
+                folder.put(b"dump", text)
+                folders.keep(folder)
+                pieces = list(sources.dump_pieces(b"/texts/"))
+            self.assertEqual(b"".join(pieces), text)
+            self.assertTrue(all(it.endswith(b"\n") for it in pieces[:-1]))
+            self.assertEqual(sum(map(overview.files_in, pieces)), len(list(sources.names_of(text))))
+
+    def test_inodes_are_counted_as_they_are_read(self) -> None:
+        """Also those that facl-snapshot does not write: names that come twice, in any order, and records with other fields."""
+        births, wanted = [b"0", b"12.5", b"1.000000001", b"-"], {b"a", b"b c"}
+        for seed in range(1000):
+            chance = random.Random(seed)
+            files = [chance.choice([b"", b"a", b"b/", b"b", b"b c", b"a\1", b"a/b", b"a-b"]) for _ in range(chance.randrange(5))]
+            in_order = sorted(set(files) if chance.random() < 0.8 else files, key=names.sorting_key)
+            rows = [b"%d %d %s /%s\0" % (chance.randrange(1, 3), chance.randrange(9), chance.choice(births), name)
+                    for name in (in_order if chance.random() < 0.8 else in_order[::-1])]
+            rows += [chance.choice([b"1 2 3.x /a\0", b"1 2\0", b"x 2 3.4 /y\0", b"1 2 -.x /q\0", b"1 2 3.4 /z"])] * (chance.random() < 0.2)
+            text = b"boot 1\0" + b"".join(rows)
+            try:
+                known = snapshot.counts_of(snapshot.read_inodes(text))
+            except ValueError:
+                self.assertRaises(ValueError, snapshot.look_at_inodes, text, wanted)
+                continue
+            found = snapshot.look_at_inodes(text, wanted)
+            self.assertEqual(found[:2], known[:2], text)
+            its = [{name: tuple(it.found[name][:2]) for name in wanted if name in it.found} for it in (found, known)]
+            self.assertEqual(its[0], its[1], text)
 
 
 class Scripts(Case):
@@ -135,8 +177,35 @@ class Records(unittest.TestCase):
         for size in (1, 7, 60, len(listing)):
             pieces = [listing[start : start + size] for start in range(0, len(listing), size)]
             self.assertEqual(records.list_pieces(pieces).files, found)
-        directories = [path for path, file in records.list_pieces([listing], [b"g", b"none"]).files.items() if file.is_directory]
-        self.assertEqual(directories, [b"", b".a", b".a/b\nc", b"d", b"g"])
+
+    def test_a_listing_in_columns(self) -> None:
+        """Files, kinds and folders are those of the listing, also of parts of it, where directories above are not recorded too."""
+        for seed in range(60):
+            chance = random.Random(seed)
+            names_of_files = [b"a", b"b", b"a b", b"a-b", *[b"c\nd", b"\\", b".h"] * (seed % 2)]
+            found = {b"/".join(chance.choice(names_of_files) for _ in range(chance.randrange(1, 5))) for _ in range(40)}
+            found.update([b""] * chance.randrange(2), [above for path in found for above in names.directories_above(path)[:-1]] * (seed % 3 > 0))
+            paths = sorted(found, key=names.path_order)
+            bodies = [b"# owner: %d\n# group: 1\nuser::rwx\n" % chance.randrange(3) + b"default:user::rwx\n" * (chance.random() < .1)
+                      for _ in paths]
+            shown = [names.shown_path(path) + b"/" * (path != b"" and chance.random() < .1) for path in paths]
+            text = b"".join(b"# file: %s\n%s\n" % it for it in zip(shown, bodies))
+            directories = [chance.choice(paths), b"none"]
+            files = records.read_listing(text)
+            files.update({path: files[path]._replace(is_directory=True) for path in directories if path in files})
+            with tempfile.TemporaryFile() as file:
+                file.write(text)
+                file.flush()
+                tree = file_columns.tree_of([OutputSlice(file, 0, len(text))], directories)
+            tops = [chance.choice(paths) for _ in range(chance.randrange(1, 4))]
+            part = tree.part(names.places_below(paths, top) for top in names.highest(tops))
+            for its, wanted in ((tree, paths), (part, names.at_or_below(paths, tops))):
+                self.assertEqual(its.paths, wanted, seed)
+                self.assertEqual([its.files[kind] for kind in its.kinds], [files[path] for path in wanted], seed)
+                folders = [(path, run.folder) for run in its.runs for path in its.paths[run.start : run.end]]
+                self.assertEqual(folders, [(path, names.parent_of(path) if path else None) for path in wanted], seed)
+            above = {it for path in paths for it in names.directories_above(path) if it in files}
+            self.assertEqual(tree.above, {path: file for path, file in files.items() if file.is_directory or path in above}, seed)
 
     def test_names_in_a_dump(self) -> None:
         """Each line that begins a record counts, and no name with such words in it."""

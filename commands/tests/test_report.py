@@ -14,7 +14,7 @@ import subprocess
 import sys
 import tempfile
 import unittest
-from typing import Any, Dict, Iterable, List, Sequence, Tuple
+from typing import Any, Dict, Iterable, List, Tuple
 
 from common import COMMANDS, HERE, Case
 from page_data import Node, granted, nodes_of, places_of, read_data, unpacked
@@ -26,10 +26,11 @@ from facl_commands.base.names import path_order, write_name  # noqa: E402
 from facl_commands.base.new_file import NewFile  # noqa: E402
 from facl_commands.base.numbered import Numbered  # noqa: E402
 from facl_commands.base.programs import LINUX  # noqa: E402
+from facl_commands.model import file_columns  # noqa: E402
 from facl_commands.page import columns as page_columns  # noqa: E402
-from facl_commands.page.answers import ListAnswers  # noqa: E402
+from facl_commands.page.answers import ListAnswers, ListReasons  # noqa: E402
 from facl_commands.page import frame as page_html  # noqa: E402
-from facl_commands.page import tree as page_tree  # noqa: E402
+from facl_commands.page.tree import Columns, list_files  # noqa: E402
 from facl_commands.program.session import OutputSlice, Session  # noqa: E402
 
 HOSTILE = [b"<script>alert(1)", b"<!--", b"</title><img src=x onerror=alert(1)>", b"&amp;", b"\\033[31m", b"\\351", b"\\342\\200\\250",
@@ -297,7 +298,8 @@ class Trees(unittest.TestCase):
         """The paths by what each file is in, and its name from there on."""
         found: List[bytes] = []
         depths: List[int] = []
-        for parent, depth, names in page_tree.by_folder(paths):
+        for _, place, parent, depth, names in file_columns.by_folder(paths):
+            self.assertEqual(place, len(found))
             above = b"" if parent < 0 or not found[parent] else found[parent] + b"/"
             found += [above + name for name in names]
             self.assertEqual(depth, 0 if parent < 0 else depths[parent] + 1)
@@ -316,18 +318,18 @@ class Trees(unittest.TestCase):
                     # Where directories above are not recorded, both listings are the same.
                     found.update(b"/".join(path[:k]) for k in range(1 if seed % 2 else len(path), len(path) + 1))
                 kept.append(sorted(found, key=path_order) if seed % 2 or not kept else kept[0])
-            tree, labels = page_tree.PageTree(), page_tree.Labels()
-            listings = []
+            listings: List[file_columns.FileColumns] = []
             for paths in kept:
                 output = listing_of((write_name(path) or b"." for path in paths), (BODY % len(path) for path in paths))
-                listings.append(tree.add(page_tree.records_of(output), labels))
+                listings.append(list_files([output], *listings))
                 output.file.close()
-            columns = page_columns.Columns(listings)
+            columns = Columns(listings)
             self.assertEqual(columns.paths, sorted({*kept[0], *kept[1]}, key=path_order))
             self.assertEqual(self.paths_of(columns.paths), columns.paths)
             for paths, listing in zip(kept, listings):
                 there = {path: k for path, k in zip(columns.paths, columns.labels(listing, columns.paths)) if k >= 0}
-                self.assertEqual({path: labels.bodies()[k] for path, k in there.items()}, {path: BODY % len(path) for path in paths})
+                bodies = listing.numbers.bodies()
+                self.assertEqual({path: bodies[k] for path, k in there.items()}, {path: BODY % len(path) for path in paths})
 
 
 class Deep(Case):
@@ -337,20 +339,20 @@ class Deep(Case):
 
     def page(self) -> Dict[str, Any]:
         """Its data; users 1 and 2 may search all but the last directory, which is that of user 1 alone."""
-        tree, labels = page_tree.PageTree(), page_tree.Labels()
         last = b"a/" * self.LEVELS
         names = [b"."] + [b"a/" * k for k in range(1, self.LEVELS + 1)] + [b"a/" * k + b"f" for k in range(self.LEVELS, -1, -1)]
         output = listing_of(names, (BODY % (name == last) for name in names))
-        listing = tree.add(page_tree.records_of(output), labels)
+        listing = list_files([output])
         output.file.close()
         vectors, lists = [b"\xff\xff", b"\xff\x01"], [b"other::r-x", b"other::---"]
         entries: Numbered[bytes] = Numbered()
-        reasons: List[Sequence[int]] = [[*map(entries.number, its)] for its in ([b"other::r-x"] * 2, [b"user::rwx", b"other::---"])]
+        first, second, third = map(entries.number, (b"other::r-x", b"user::rwx", b"other::---"))
+        reasons = [ListReasons(first, {}), ListReasons(third, {0: second})]
         answers = ListAnswers([b"ines", b"ben"], vectors, lists, reasons, entries)
         tables = page_columns.Tables([page_columns.Who("user", name, name) for name in answers.users])
-        views = [tables.view(answers, labels.bodies())]
+        views = [tables.view(answers, listing.numbers.bodies())]
         return {"title": "deep", "script": False, "alone": False, "without": [], "whos": [["user", "ines"], ["user", "ben"]],
-                "start": tables.start, "files": page_columns.Columns([listing]).data(tables, views), **tables.data(views),
+                "start": tables.start, "files": Columns([listing]).data(tables, views), **tables.data(views),
                 "heads": [], "judge": "", "unknown": [], "marks": {}, "mounts": {}, "beside": []}
 
     def test_a_chain(self) -> None:

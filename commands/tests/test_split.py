@@ -122,7 +122,7 @@ class SplitCase(Case):
         given = audit.parse(["--json", self.path(name)])
         folder = os.fsencode(self.path(name))
         found = audit.report_of(given, sources.Source(folder, folder, False), LINUX.find())
-        return (found.files, found.folders, found.is_whole, {kind: sorted(its) for kind, its in found.findings.items()},
+        return (found.files, found.folders, found.is_whole, {kind: sorted(its.first()) for kind, its in found.findings.items()},
                 [kind.name for kind in found.kinds()])
 
     def checked(self, name: str) -> object:

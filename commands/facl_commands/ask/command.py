@@ -26,7 +26,7 @@ from ..program.answering import answer_unit, below_heading, write_messages
 from ..program.protocol import ANSWERED, REFUSED, is_refused
 from ..program.scripts import Unit, lines_of_file, open_script, read_script, read_text, read_units
 from ..program.session import Session
-from .parts.runs import SECONDS
+from .parts import SECONDS
 from .stops import marked
 
 HELP = """\
@@ -115,8 +115,6 @@ def units_of_input() -> Dict[int, Unit]:
 def run_explained(command: Command, program: str, source: Source, name: Optional[bytes]) -> int:
     """Runs the program over the standard input, and returns its status. Where that is a script by name, what was probably
     meant comes below each message. A terminal gets messages without what it obeys."""
-    from ..program.hints.hint import explained_by_number
-
     units: Optional[Dict[int, Unit]] = None if name is not None else {}
     is_terminal = os.isatty(2)
     texts = folder_of(source.folder)
@@ -125,6 +123,8 @@ def run_explained(command: Command, program: str, source: Source, name: Optional
         assert run.stderr is not None
         try:
             for line in run.stderr:
+                from ..program.hints.hint import explained_by_number  # Few runs need it.
+
                 units = units_of_input() if units is None else units
                 command.put(command.messages, shown(line.rstrip(b"\n")) + b"\n" if is_terminal else line)
                 command.explain(explained_by_number(units, line.rstrip(b"\n")))

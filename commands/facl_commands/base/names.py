@@ -100,6 +100,21 @@ def at_or_below(paths: Iterable[bytes], tops: Iterable[bytes]) -> List[bytes]:
     return [path for path in paths if path in known or path.startswith(starts)]
 
 
+def place_of(paths: List[bytes], key: bytes) -> int:
+    """How many of some paths in path order come before a key of their order."""
+    first, last = 0, len(paths)
+    while first < last:
+        middle = (first + last) // 2
+        first, last = (middle + 1, last) if sorting_key(paths[middle]) < key else (first, middle)
+    return first
+
+
+def places_below(paths: List[bytes], top: bytes) -> Tuple[int, int]:
+    """Where those of some paths in path order begin and end that are at or below another one."""
+    key = sorting_key(top)
+    return (place_of(paths, key), place_of(paths, key + b"\1")) if top else (0, len(paths))
+
+
 def highest(paths: Iterable[bytes]) -> List[bytes]:
     """Paths in path order, each once, without those that another one is above."""
     known = set(paths)

@@ -18,3 +18,11 @@ class Numbered(Generic[Value]):
         if found == len(self.values):
             self.values.append(value)
         return found
+
+
+class Numbers(Dict[Value, int]):
+    """The same by values alone, in the order of their numbers; one that is looked up for the first time gets the next."""
+
+    def __missing__(self, value: Value) -> int:
+        number = self[value] = len(self)
+        return number

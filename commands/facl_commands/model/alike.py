@@ -5,22 +5,14 @@ above. So a question about one of such files is one about all of them.
 """
 from __future__ import annotations
 
-from typing import Dict, Iterable, List, NamedTuple, Optional, Tuple
+from typing import Dict, Iterable, List, Optional, Set, Tuple
 
 from ..base.names import parent_of, way_to
-from .records import File, Files
+from .file_columns import FileTree
+from .records import Files
 
 TOP = 0  # The number of what is above the root.
-
-
-class Alike(NamedTuple):
-    """Some files, and what they have in common."""
-
-    file: File
-    paths: List[bytes]  # In the order in which they were given.
-
-    def first(self) -> bytes:
-        return self.paths[0]
+AlikeKey = Tuple[int, int]  # Of files that are alike: the number of the directories above, and that of what they are in a tree.
 
 
 class Chains:
@@ -41,19 +33,32 @@ class Chains:
         return self.numbers[path]
 
 
-def alike_of(files: Files, paths: Iterable[bytes], is_alone: bool) -> List[Alike]:
-    """Some of the files by what they have in common; each file alone, or along its path."""
-    chains = Chains(files)
-    found: Dict[Tuple[int, File], Alike] = {}
-    above, inside = TOP, None  # The folder of the files that were looked at last.
-    for path in paths:
-        folder = path.rpartition(b"/")[0]
-        if folder != inside or not path:
-            above = TOP if is_alone or not path else chains.number(folder)
-            inside = folder if path else None
-        key = above, files[path]
-        if key in found:
-            found[key].paths.append(path)
-        else:
-            found[key] = Alike(files[path], [path])
-    return list(found.values())
+class AlikeFiles:
+    """The files of some kinds in a tree by what they have in common; each file alone, or along its path."""
+
+    def __init__(self, tree: FileTree, kinds: Set[int], is_alone: bool) -> None:
+        self.tree, chains = tree, Chains(tree.above)
+        self.above: List[int] = []  # By run.
+        self.first: Dict[AlikeKey, bytes] = {}  # The path of the first file of each group, in path order.
+        seen: Dict[int, Set[int]] = {}
+        for run in tree.runs if kinds else []:
+            above = TOP if is_alone or run.folder is None else chains.number(run.folder)
+            new = kinds.intersection(tree.kinds[run.start : run.end]).difference(seen.setdefault(above, set()))
+            if new:
+                for kind, path in zip(tree.kinds[run.start : run.end], tree.paths[run.start : run.end]):
+                    if kind in new:
+                        self.first.setdefault((above, kind), path)
+                seen[above] |= new
+            self.above.append(above)
+
+    def paths(self, keys: Iterable[AlikeKey]) -> Dict[AlikeKey, List[bytes]]:
+        """The files of some groups, in path order."""
+        tree = self.tree
+        found: Dict[AlikeKey, List[bytes]] = {key: [] for key in keys}
+        hot = {above for above, _ in found}
+        for above, run in zip(self.above, tree.runs):
+            for place in range(run.start, run.end) if above in hot else ():
+                key = above, tree.kinds[place]
+                if key in found:
+                    found[key].append(tree.paths[place])
+        return found

@@ -18,15 +18,16 @@ from ..base.folders import Folder, folder_of
 from ..base.messages import Failure
 from ..base.names import script_word, write_user
 from ..base.user_tools import User
-from ..program.protocol import FREE_FILE_LINE, LIST, LIST_EFFECTIVE
+from ..program.protocol import ALL_OF, FREE_FILE_LINE, LIST, LIST_EFFECTIVE
 from ..program.scripts import Unit
 from ..program.session import Session
 from ..program.tools import ABOUT_ONE, ABOUT_USERS, BY_FILES, QUESTIONS, USER, options_with, path_in, split, user_in
+from .file_columns import FileTree, tree_of
 from .meta import Meta, users_asked_for
 from .people import ids_of, needed_word, users_in
-from .records import Listing, list_slices, path_of
+from .records import path_of, paths_in
 from .snapshot import NEEDED
-from .sources import DUMP, Source, find_tops, operands_of
+from .sources import DUMP, Source, dump_pieces, find_tops, operands_of
 
 SHOWN = b"everybody else"  # The program prints no name of a user with a blank.
 START = b"facl-everybody-else-"  # Of the name in questions.
@@ -99,8 +100,10 @@ def read_everybody(word: bytes, folder: bytes) -> Everybody:
 
 
 def texts_in(folders: Iterable[bytes]) -> Iterator[bytes]:
-    """The texts of snapshots, one after another."""
-    return (folder_of(folder).read(name) for folder in folders for name in NEEDED)
+    """The texts of snapshots, one after another, dumps in pieces."""
+    for folder in folders:
+        yield from map(folder_of(folder).read, NEEDED[:2])
+        yield from dump_pieces(folder)
 
 
 def beside(about: Meta) -> List[bytes]:
@@ -219,7 +222,7 @@ def world_of(program: str, source: Source) -> Iterator[World]:
 
 
 def directories_of(dump: bytes) -> Iterator[bytes]:
-    """The paths of the files of a dump whose names end in a slash."""
+    """The paths of the files of a dump, or of whole lines of one, whose names end in a slash."""
     end = dump.find(b"/\n")
     while end >= 0:
         match = DIRECTORY.fullmatch(dump, dump.rfind(b"\n", 0, end) + 1, end + 1)
@@ -228,8 +231,13 @@ def directories_of(dump: bytes) -> Iterator[bytes]:
         end = dump.find(b"/\n", end + 1)
 
 
-def listing_of(world: World) -> Listing:
+def paths_of(world: World) -> List[bytes]:
+    """The paths of all files, in path order."""
+    return paths_in(world.session.ask_accepted(ALL_OF % world.everybody.name))
+
+
+def files_of(world: World) -> FileTree:
     """All files, with what the masks cut; a directory is one by the dump too."""
     session, folder = world.session, world.session.folder
     lines = [b" ".join([LIST_EFFECTIVE, *words]) for words in operands_of(find_tops(session, folder))]
-    return list_slices(map(session.ask_accepted, lines), directories_of(folder_of(folder).read(DUMP)))
+    return tree_of(map(session.ask_accepted, lines), itertools.chain.from_iterable(map(directories_of, dump_pieces(folder))))

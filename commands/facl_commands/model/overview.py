@@ -37,14 +37,15 @@ class LoadedTexts(NamedTuple):
     links: bytes
 
 
-def read_texts(folder: bytes) -> LoadedTexts:
+def read_texts(folder: bytes, has_dump: bool = True) -> LoadedTexts:
     found = folder_of(folder)
-    passwd, group, dump = map(found.read, NEEDED)
-    return LoadedTexts(folder, passwd, group, dump, found.optional(b"links"))
+    passwd, group = map(found.read, NEEDED[:2])
+    return LoadedTexts(folder, passwd, group, found.read(NEEDED[2]) if has_dump else b"", found.optional(b"links"))
 
 
 def files_in(dump: bytes) -> int:
-    """How many records a dump has. Two searches of bytes say so if each `file:` begins one as facl-snapshot writes it."""
+    """How many records a dump has, or whole lines of one. Two searches of bytes say so if each `file:` begins one as facl-snapshot
+    writes it."""
     found = dump.count(b"\n" + FILE_HEAD) + dump.startswith(FILE_HEAD)
     return found if dump.count(b"file:") == found else sum(1 for _ in source_texts.names_of(dump))
 
@@ -145,7 +146,7 @@ def torn(texts: LoadedTexts) -> Iterator[bytes]:
     if folder_of(texts.folder).has(b"inodes") and (about is meta.UNKNOWN or meta.FILES not in recorded):
         yield b"meta: is not what facl snapshot wrote, so numbers, hosts and FOLDERs are not compared"
     for name, key, number, noun in (
-        (b"dump", meta.FILES, files_in(texts.dump), "file"),
+        (b"dump", meta.FILES, sum(map(files_in, source_texts.dump_pieces(texts.folder))), "file"),
         (b"passwd", meta.USERS, texts.passwd.count(b"\n"), "row"),
         (b"group", meta.GROUPS, texts.group.count(b"\n"), "row"),
         (b"links", meta.LINKED, sum(map(len, read_links(texts.links))), "name"),
@@ -176,8 +177,10 @@ def say_notices(command: Command, source: Source, is_acl5: bool, is_alone: bool 
     names: Dict[bytes, None] = {}  # A directory can be in several parts of a snapshot.
     for folder in split_tree.snapshots_in(source.folder):
         part = source if folder == source.folder else Source(folder, folder, False)
-        found = read_texts(folder)
-        for text in unknown(folder, found.dump):
+        # Of a dump by facl-snapshot the first lines show that it is one.
+        is_plain = source_texts.notice(folder, next(source_texts.dump_pieces(folder))) is None
+        found = read_texts(folder, is_acl5 or not is_plain)
+        for text in unknown(folder, found.dump) if not is_plain else ():
             command.say(part.shown + b": " + text if not text.startswith(b"warning: ") else text)
         for text in (*torn_warnings(found, part), *(part.shown + b": " + it for it in marks.not_judged(folder))):
             command.say(text)

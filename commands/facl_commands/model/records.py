@@ -55,9 +55,14 @@ def write_records(files: Files, paths: Iterable[bytes]) -> bytes:
 # --- a record: its first line has the name of the file, and the others are its body
 
 
+def blocks_in(listing: Iterable[OutputSlice]) -> Iterator[List[bytes]]:
+    """The records of a listing, in its order, without the end of the last line, many at once."""
+    return cut((piece for output in listing for piece in output.pieces()), b"\n\n")
+
+
 def records_in(listing: Iterable[OutputSlice]) -> Iterator[bytes]:
-    """The records of a listing, in its order, without the end of the last line."""
-    return (record for output in listing for record in output.records() if record)
+    """The same one by one."""
+    return itertools.chain.from_iterable(blocks_in(listing))
 
 
 def split_record(record: bytes) -> Tuple[bytes, bytes]:
@@ -95,9 +100,21 @@ def paths_of(names: List[bytes]) -> List[bytes]:
     return [*map(path_of, names[:1]), *[name.strip(b"/") for name in names[1:]]]
 
 
-def list_pieces(pieces: Iterable[bytes], directories: Iterable[bytes] = ()) -> Listing:
+def paths_in(answer: OutputSlice) -> List[bytes]:
+    """The paths of an answer of the program that has one in each line, the root as the first. Only one with an escape, or of a
+    directory that nothing else shows to be one, has to be read."""
+    found: List[bytes] = []
+    for names in cut(answer.pieces()):
+        text = b"\n".join([*names, b""])
+        found += map(path_of, names) if b"\\" in text or b"/\n" in text else names
+    if found[:1] == [b"."]:
+        found[0] = b""
+    return found
+
+
+def list_pieces(pieces: Iterable[bytes]) -> Listing:
     """The files of a listing that comes in pieces. A file is a directory by its name, its default entries, or another
-    file below it, or as one of `directories`. Files of one kind with the same lines are one value."""
+    file below it. Files of one kind with the same lines are one value."""
     names: List[bytes] = []
     paths: List[bytes] = []
     bodies: List[bytes] = []
@@ -113,7 +130,7 @@ def list_pieces(pieces: Iterable[bytes], directories: Iterable[bytes] = ()) -> L
     folders = {body + b"\n": File(True, body + b"\n") for body in known}
     slashed = [path for path, name in zip(paths, names) if name[-1:] == b"/"]
     parents = {path.rpartition(b"/")[0] for path in paths}
-    for path in itertools.chain([b""], parents, slashed, directories):
+    for path in itertools.chain([b""], parents, slashed):
         if path in found:
             found[path] = folders[found[path].body]
     return Listing(found, names)
@@ -124,9 +141,9 @@ def read_listing(text: bytes) -> Files:
     return list_pieces([text, b"\n\n"]).files
 
 
-def list_slices(listing: Iterable[OutputSlice], directories: Iterable[bytes] = ()) -> Listing:
+def list_slices(listing: Iterable[OutputSlice]) -> Listing:
     """The files of what a session printed."""
-    return list_pieces((piece for output in listing for piece in output.pieces()), directories)
+    return list_pieces(piece for output in listing for piece in output.pieces())
 
 
 def list_words(session: Session, words: List[bytes], line: bytes = LIST_ALL) -> List[OutputSlice]:

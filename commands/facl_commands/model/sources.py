@@ -20,7 +20,7 @@ from ..base.folders import Folder, folder_of
 from ..base.messages import Failure
 from ..base.names import highest, path_word, read_name
 from ..base.programs import add_program, program_words
-from ..base.trusted import open_file
+from ..base.trusted import MOST, open_file, too_large
 from ..program.protocol import FILE_HEAD, FREE_FILE_LINE, LIST
 from ..program.session import OutputSlice, Session, parts_of
 from .people import rows_of
@@ -34,7 +34,7 @@ KEYS_AT_ONCE = 500  # Of getent.
 LIVE_ROOT = FILE_HEAD + b"/\n"  # As facl-snapshot writes it.
 FILE_NAME = re.compile(FREE_FILE_LINE, re.DOTALL)
 HAS_FILE = re.compile(rb"^[ \t]*#[ \t]*file:", re.MULTILINE)
-PIECE = 1 << 20
+PIECE, SMALL_PIECE = 1 << 20, 1 << 18
 
 
 class Source(NamedTuple):
@@ -120,6 +120,24 @@ def pieces_of(dump: bytes) -> Iterator[bytes]:
         end = end if end >= 0 else len(dump)
         yield dump[place:end]
         place = end + 1
+
+
+def dump_pieces(folder: bytes) -> Iterator[bytes]:
+    """The dump of a snapshot, whole lines at once, which have room in the caches of a processor."""
+    opened, place, rest = folder_of(folder), 0, b""  # Which is open as long as it is known here.
+    text = opened.open_text(DUMP)
+    if text.content[0] > MOST:
+        raise too_large(text.path, MOST)
+    with failing(text.path, True):
+        piece = os.pread(text.descriptor, SMALL_PIECE, place)
+        while piece:
+            end, place = piece.rfind(b"\n") + 1, place + len(piece)
+            if end:
+                yield b"".join([rest, memoryview(piece)[:end]])
+            rest = piece[end:] if end else rest + piece
+            piece = os.pread(text.descriptor, SMALL_PIECE, place)
+    text.check()
+    yield rest
 
 
 def distinct_lines(dump: bytes) -> Set[bytes]:

@@ -18,13 +18,23 @@ from ..program.scripts import read_script
 from ..program.session import LINES_ROOM, Session, parts_of, session_over
 
 
+class ListReasons(NamedTuple):
+    """By which entries of a list users are judged, as numbers of these: those of most users, and those of others, by their places."""
+
+    most: int
+    others: Dict[int, int]
+
+    def of(self, place: int) -> int:
+        return self.others.get(place, self.most)
+
+
 class ListAnswers(NamedTuple):
     """The answers of each list, by its number."""
 
     users: List[bytes]
     vectors: List[Vector]
     lists: List[bytes]  # The lines of its record, with names.
-    reasons: List[Sequence[int]]  # For each user the number of the entries that decide,
+    reasons: List[ListReasons]  # The entries that decide,
     entries: Numbered[bytes]  # which are these lines.
 
 
@@ -49,7 +59,7 @@ def ask_entries(session: Session, lines: Iterable[bytes], entries: Numbered[byte
 
 
 def ask_reasons(session: Session, texts: PeopleTexts, everybody: bytes, users: List[bytes], bodies: List[bytes],
-                entries: Numbered[bytes]) -> List[List[int]]:
+                entries: Numbered[bytes]) -> List[ListReasons]:
     """By which entries each user is judged, by list; one whom no word names has no entries here."""
     people, known = People(texts.passwd, texts.group), users_in(texts.passwd)
     for unit in read_script(b"", texts.lines):
@@ -58,11 +68,11 @@ def ask_reasons(session: Session, texts: PeopleTexts, everybody: bytes, users: L
     asked = [(place, word, lists) for place, (word, lists) in enumerate(zip(words, mentioning(people, users, bodies))) if word]
     lines = (b" ".join([ENTRIES_OF, word, *part]) for _, word, lists in asked for part in parts_of(WORD % it for it in lists))
     alike = [ENTRIES_OF + b" " + script_word(everybody) + b" " + part for part in operands_of(len(bodies))]
-    nothing = entries.number(b"")
-    found = [[nothing if word is None else number for word in words] for number in ask_entries(session, alike, entries)]
+    without = dict.fromkeys([place for place, word in enumerate(words) if word is None], entries.number(b""))
+    found = [ListReasons(number, dict(without)) for number in ask_entries(session, alike, entries)]
     places = ((place, number) for place, _, lists in asked for number in lists)
     for (place, number), entry in zip(places, ask_entries(session, lines, entries)):
-        found[number][place] = entry
+        found[number].others[place] = entry
     return found
 
 

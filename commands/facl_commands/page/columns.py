@@ -7,17 +7,18 @@ then those who have something else.
 from __future__ import annotations
 
 import base64
+import itertools
 import re
-from array import array
 from collections import Counter
-from typing import Dict, Iterable, List, NamedTuple, Sequence, Set, Tuple
+from operator import itemgetter
+from typing import Dict, Iterable, List, NamedTuple, Sequence, Tuple
 
 from ..base.names import shown as shown_bytes
-from ..base.names import sorting_key, write_name
+from ..base.names import write_name
 from ..base.numbered import Numbered
+from ..model.file_columns import ABOVE
 from ..model.rules_of_lists import inside
-from .answers import ListAnswers
-from .tree import ABOVE, PageListing, by_folder
+from .answers import ListAnswers, ListReasons
 
 GONE = -1  # The label of a file that is not there.
 ABSENT = b"\0"  # In the place of a byte of `index`, which always grants the request for nothing.
@@ -63,10 +64,10 @@ def packed(numbers: Iterable[int]) -> str:
     return base64.b64encode(b"".join(map(Sevens().__getitem__, numbers))).decode()
 
 
-def row_of(values: Sequence[int]) -> Row:
+def row_of(values: bytes) -> Row:
     """The values of all places, with that of most of them once."""
-    most = Counter(values).most_common(1)[0][0] if values else 0
-    return most, {place: value for place, value in enumerate(values) if value != most}
+    most = max(dict.fromkeys(values), key=values.count, default=0)
+    return most, {place: value for place, value in enumerate(values) if value != most} if values.count(most) < len(values) else {}
 
 
 class View(NamedTuple):
@@ -95,26 +96,36 @@ class Tables:
         """Takes what the program answers of the lists of one state."""
         known = {user: place for place, user in enumerate(answers.users)}
         places = [known.get(who.user, -1) for who in self.whos]  # Of one who is not there -1, which is the last one.
-        rows = [self.rows.number(bytes(map((vector + ABSENT).__getitem__, places))) for vector in answers.vectors]
+        picked = itemgetter(*places, -1)  # The last one makes a tuple of them where there is one.
+        rows = [self.rows.number(bytes(picked(vector + ABSENT)[:-1])) for vector in answers.vectors]
         lists = [self.lists.number((shown_lines(text), body)) for text, body in zip(answers.lists, bodies)]
+        there = {it: place for place, it in enumerate(places) if it >= 0}
         numbers: Dict[int, int] = {}
-        decisions = {number: self.decided(answers, its, places, numbers) for number, its in zip(lists, answers.reasons)}
+        decisions = {number: self.decided(answers, its, there, numbers) for number, its in zip(lists, answers.reasons)}
         return View([*rows, self.rows.number(b"")], [*lists, GONE], decisions)
 
-    def decided(self, answers: ListAnswers, reasons: Sequence[int], places: List[int], numbers: Dict[int, int]) -> Row:
-        """By which entries of a list the shown users are judged; `numbers` has those of the page by these."""
-        found = {place: reasons[it] for place, it in enumerate(places) if it >= 0}
-        for it in dict.fromkeys(found.values()):
+    def decided(self, answers: ListAnswers, reasons: ListReasons, there: Dict[int, int], numbers: Dict[int, int]) -> Row:
+        """By which entries of a list the shown users are judged, whose places are those of users of the answers; `numbers` has those
+        of the page by these."""
+        others = dict(sorted((there[it], number) for it, number in reasons.others.items() if it in there))
+        rest = (place for place in there.values() if place not in others)  # Judged by the entries of most users.
+        firsts = [*others.items(), *((place, reasons.most) for place in itertools.islice(rest, 1))]
+        for _, it in sorted(firsts):
             if it not in numbers:  # Two blanks are before what the mask leaves.
                 numbers[it] = self.entries.number(shown_lines(re.sub(rb"\t+", b"  ", answers.entries.values[it])))
-        values = [numbers[it] for it in found.values()]
-        most = Counter(values).most_common(1)[0][0] if values else 0
-        return most, {place: value for place, value in zip(found, values) if value != most}
+        counts = Counter({numbers[it]: 0 for _, it in sorted(firsts)})
+        counts.update(numbers[it] for it in others.values())
+        if len(others) < len(there):
+            counts[numbers[reasons.most]] += len(there) - len(others)
+        most = max(counts, key=counts.__getitem__, default=0)  # Of as many the first one.
+        is_usual = len(others) < len(there) and most == numbers[reasons.most]
+        found = {place: numbers[others.get(place, reasons.most)] for place in (others if is_usual else there.values())}
+        return most, {place: value for place, value in found.items() if value != most}
 
     def kinds_of(self, view: View, labels: Sequence[int], first: Iterable[int], folders: List[int]) -> List[int]:
         """The kind of each file, of which some are directories; `first` has the labels in the order of the kinds."""
         its = {label: self.kinds.number((0, view.rows[label], view.lists[label])) for label in dict.fromkeys(first)}
-        found = [its[label] for label in labels]
+        found = list(map(its.__getitem__, labels))
         for place in folders:
             found[place] = self.kinds.number((1, view.rows[labels[place]], view.lists[labels[place]]))
         return found
@@ -140,54 +151,3 @@ class Tables:
             "insides": [[*pair, found] for pair, found in self.insides.items()],
             "decisions": lists, "before": {number: it for number, it in old.items() if it != lists[number]},
         }
-
-
-class Columns:
-    """The files in path order, so that a file is in an earlier one, and nothing is nested."""
-
-    def __init__(self, listings: List[PageListing]) -> None:
-        self.listings = listings
-        first = listings[0].paths
-        is_same = listings[-1].paths is first
-        # In the order of their kinds: those of the first listing, and then new ones.
-        self.known = first if is_same else [*dict.fromkeys([*first, *listings[-1].paths])]
-        self.paths = first if is_same else sorted(self.known, key=sorting_key)
-        self.names: Dict[bytes, int] = {}
-        self.columns = array("i"), array("i"), array("i")
-        # A name is written as how many names before the next new one it is.
-        name_of, depths, self.parents = self.columns
-        for its in by_folder(self.paths):
-            name_of.extend([len(self.names) - self.names.setdefault(name, len(self.names)) for name in its.names])
-            depths.extend([its.depth] * len(its.names))
-            self.parents.extend([its.parent] * len(its.names))
-
-    def labels(self, listing: PageListing, paths: List[bytes]) -> Sequence[int]:
-        """The labels of some files."""
-        if paths is listing.paths:
-            return listing.labels
-        known = dict(zip(listing.paths, listing.labels))
-        return [known.get(path, GONE) for path in paths]
-
-    def folders(self, listing: PageListing, labels: Sequence[int]) -> Set[int]:
-        """The places of what is a directory in a listing: by its record, or since another file is in it."""
-        known = listing.folders
-        found = {place for place, path in enumerate(self.paths) if path in known}
-        if labels is not listing.labels:
-            return found.union(parent for parent, label in zip(self.parents, labels) if label != GONE) - {ABOVE}
-        return found.union(self.parents) - {ABOVE}
-
-    def data(self, tables: Tables, views: List[View]) -> Dict[str, object]:
-        """The columns: names, depths and kinds; and by places the kind before, where the file was another one."""
-        labels = [self.labels(listing, self.paths) for listing in self.listings]
-        folders = [self.folders(*its) for its in zip(self.listings, labels)]
-        places = sorted(folders[0] | folders[-1])
-        kinds = []
-        for view, listing, its in zip(views[::-1], self.listings[::-1], labels[::-1]):
-            kinds.append(tables.kinds_of(view, its, self.labels(listing, self.known), places))
-            tables.find_insides(kinds[-1], places, self.parents)
-        others = folders[0] ^ folders[-1]
-        if len(kinds) > 1:
-            others.update(place for place, (old, new) in enumerate(zip(kinds[-1], kinds[0])) if old != new)
-        return {"count": len(self.paths), "names": "\n".join(shown_name(name) or "/" for name in self.names),
-                "name": packed(self.columns[0]), "depth": packed(self.columns[1]), "kind": packed(kinds[0]),
-                "changed": {place: kinds[-1][place] for place in sorted(others)}}

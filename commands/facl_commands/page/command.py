@@ -9,6 +9,7 @@ from ..base.messages import Command, Failure, counted, parser_of
 from ..base.new_file import NewFile
 from ..base.programs import find_program
 from ..model import overview, sources
+from ..model.file_columns import FileColumns
 from ..model.marks import marks_of
 from ..model.records import File, Files
 from ..model.snapshot import read_snapshot
@@ -16,9 +17,9 @@ from ..model.sources import Source
 from ..program.scripts import Unit, read_text
 from ..program.session import Session
 from . import review
-from .data import data_of, list_files
+from .data import data_of
 from .frame import page_of
-from .tree import Labels, PageListing, PageTree
+from .tree import list_files
 
 if TYPE_CHECKING:
     from ..plan.replay import Replay
@@ -54,11 +55,11 @@ def parse(words: List[str]) -> argparse.Namespace:
     return given
 
 
-def linked_files(listing: PageListing, labels: Labels, names: List[List[bytes]]) -> Files:
+def linked_files(listing: FileColumns, names: List[List[bytes]]) -> Files:
     """The files that have several names, by each that is listed."""
-    wanted, bodies = {path for its in names for path in its}, labels.bodies()
-    return {path: File(path in listing.folders, bodies[label])
-            for path, label in zip(listing.paths, listing.labels) if path in wanted}
+    wanted, bodies, folders = {path for its in names for path in its}, listing.numbers.bodies(), set(listing.folders)
+    return {path: File(place in folders, bodies[listing.labels[place]])
+            for place, path in enumerate(listing.paths) if path in wanted}
 
 
 def answer_scripts(command: Command, run: Replay, units: List[Unit]) -> int:
@@ -71,29 +72,26 @@ def answer_scripts(command: Command, run: Replay, units: List[Unit]) -> int:
 
 def page_over(command: Command, given: argparse.Namespace, source: Source) -> Optional[bytes]:
     """The page; None where lines were refused."""
-    snapshot = read_snapshot(source.folder, needs_links=False)
+    snapshot = read_snapshot(source.folder, needs_links=False, needs_inodes=False)
     program = find_program(given)
     units = [unit for name in given.scripts for unit in read_text(name).units()]
     overview.say_notices(command, source, given.acl5, is_alone=False)
-    tree = PageTree(marks_of(snapshot.folder))
     with Session(program, snapshot.folder) as session:
-        labels = Labels()
         tops = sources.find_tops(session, snapshot.folder)
-        listing = tree.add(list_files(session, tops), labels)
-        listings = [(listing, labels)]
-        if not listing.paths:
+        listings = [list_files(sources.list_below(session, tops))]
+        if not listings[0].paths:
             raise Failure(source.shown + b": has no files; make a snapshot with facl snapshot")
         if given.scripts:
             from ..plan.replay import Replay  # A page of one state needs none.
 
-            linked = linked_files(listing, labels, snapshot.links)
+            linked = linked_files(listings[0], snapshot.links)
             refusals = answer_scripts(command, Replay(session, snapshot, linked), units)
             if refusals:
                 command.say(b"no page was written: " + counted(refusals, "line was", "lines were") + b" refused")
                 return None
-            labels = Labels()
-            listings.append((tree.add(list_files(session, tops), labels), labels))
-    return page_of(data_of(program, snapshot._replace(folder=source.shown), tree, listings, units, given))
+            listings.append(list_files(sources.list_below(session, tops), listings[0]))
+    marks = marks_of(snapshot.folder)
+    return page_of(data_of(program, snapshot._replace(folder=source.shown), marks, listings, units, given))
 
 
 def body(command: Command, words: List[str]) -> int:

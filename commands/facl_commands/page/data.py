@@ -4,15 +4,16 @@ from __future__ import annotations
 import argparse
 import os
 import re
-from typing import Dict, Iterable, Iterator, List, Set, Tuple
+from typing import Dict, Iterable, List, Set
 
 from ..base.accounts import is_of_system
 from ..base.beside import of_mount
 from ..base.names import read_name
 from ..base.programs import judge_text
-from ..model import meta, sources
+from ..model import meta
 from ..model.entries import read_record
 from ..model.everybody import everybody_in, free_ids
+from ..model.file_columns import FileColumns
 from ..model.label_answers import PeopleTexts
 from ..model.marks import TEXTS, Marks, alone, not_judged
 from ..model.people import plain_id, rows_of
@@ -20,11 +21,10 @@ from ..model.snapshot import Snapshot
 from ..model.superuser import Superusers, ids_in
 from ..program.protocol import ADD_USER_WITH
 from ..program.scripts import Unit
-from ..program.session import Session
 from ..program.tools import CHANGES_OF_PEOPLE
 from .answers import ask_lists
-from .columns import Columns, Tables, Who, shown
-from .tree import Labels, PageListing, PageTree, records_of
+from .columns import Tables, Who, shown
+from .tree import Columns
 
 
 class Probes:
@@ -41,11 +41,6 @@ class Probes:
         self.lines = b"".join(ADD_USER_WITH % (uid, row[2], who.user) + b"\n"
                               for uid, who, row in zip(free_ids(self.passwd, used), self.whos, groups))
         self.whos.append(Who("everybody", b"everybody", everybody.name))
-
-
-def list_files(session: Session, tops: List[bytes]) -> Iterator[List[bytes]]:
-    """The records of the files as they are now; none where the tops were removed, which removes all."""
-    return (records for output in sources.list_below(session, tops) for records in records_of(output))
 
 
 def users_shown(old: List[bytes], new: List[bytes], probes: List[Who], left_out: Set[bytes],
@@ -73,10 +68,10 @@ def marks_on(paths: List[bytes], marks: Marks) -> Dict[str, object]:
             "beside": list(map(shown, alone(marks)))}
 
 
-def data_of(program: str, snapshot: Snapshot, tree: PageTree, listings: List[Tuple[PageListing, Labels]],
-            units: List[Unit], given: argparse.Namespace) -> Dict[str, object]:
+def data_of(program: str, snapshot: Snapshot, marks: Marks, listings: List[FileColumns], units: List[Unit],
+            given: argparse.Namespace) -> Dict[str, object]:
     """The data of the page, of one listing, or of two with scripts between them."""
-    bodies = [labels.bodies() for _, labels in listings]
+    bodies = [listing.numbers.bodies() for listing in listings]
     changes = b"".join(unit.lines[0] + b"\n" for unit in units if unit.is_of(*CHANGES_OF_PEOPLE))
     probes = Probes(snapshot, [body for its in bodies for body in its], changes)
     texts = [PeopleTexts(probes.passwd, probes.group, lines + probes.lines) for lines in (b"", changes)]
@@ -87,14 +82,14 @@ def data_of(program: str, snapshot: Snapshot, tree: PageTree, listings: List[Tup
         superusers.follow(unit)
     tables = Tables(users_shown(answers[0].users, answers[-1].users, probes.whos, superusers.names, ids))
     views = [tables.view(*its) for its in zip(answers, bodies)]
-    columns = Columns([listing for listing, _ in listings])
+    columns = Columns(listings)
     files = columns.data(tables, views)
     return {
         "title": shown(meta.named(snapshot.folder, meta.meta_of(snapshot.folder))), "script": len(listings) > 1,
         "alone": given.file_alone, "without": sorted(map(shown, superusers.names)),
         "whos": [[who.kind, shown(who.name)] for who in tables.whos], "start": tables.start, "files": files,
         **tables.data(views), "heads": [head_of(snapshot.folder, snapshot.folder)], "judge": judge_text(given),
-        "unknown": unknown_of(snapshot.folder), **marks_on(columns.paths, tree.marks),
+        "unknown": unknown_of(snapshot.folder), **marks_on(columns.paths, marks),
     }
 
 

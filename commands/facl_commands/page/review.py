@@ -21,6 +21,7 @@ from ..base.programs import find_program, judge_text
 from ..model import choice, meta, overview, sources
 from ..model.entries import GROUP, MASK, NOTHING, OTHER, USER, Entry, NamesOfIds, entries_of, read_record
 from ..model.everybody import SHOWN, everybody_in
+from ..model.file_columns import ABOVE, FileColumns, FolderFiles, Labels, by_folder, columns_of
 from ..model.label_answers import PeopleTexts
 from ..model.marks import alone, marks_of, not_judged
 from ..model.rights import places_in
@@ -32,7 +33,6 @@ from ..program.session import Session
 from .answers import ask_lists
 from .columns import shown
 from .frame import page_of
-from .tree import ABOVE, FolderFiles, Labels, PageListing, PageTree, by_folder, records_of
 
 READ, WRITE, SEARCH = 4, 2, 1  # Requests, which are bits of a byte of `index`.
 STYLE, SCRIPT = "review.css", "review.js"
@@ -42,8 +42,8 @@ MOST = b"at most (mask)"
 class Reviewed(NamedTuple):
     """The files at or below a folder, and the directories above it."""
 
-    above: PageListing  # Those that are recorded, from the highest one down.
-    files: PageListing
+    above: FileColumns  # Those that are recorded, from the highest one down.
+    files: FileColumns
     labels: Labels  # Of both.
 
     def parts(self) -> List[FolderFiles]:
@@ -54,9 +54,8 @@ def read_reviewed(session: Session, word: bytes) -> Reviewed:
     path, labels = choice.folder_of(session, word), Labels()
     above = [it for it in directories_above(path)[::-1] if choice.is_recorded(session, it)]
     lines = [LIST_CUT + b" " + path_word(it) for it in above]
-    recorded = PageTree().add((it for line in lines for it in records_of(session.ask_accepted(line))), labels)
-    files = PageTree().add(records_of(session.ask_accepted(LIST_EFFECTIVE + b" " + path_word(path))), labels)
-    return Reviewed(recorded, files, labels)
+    recorded = columns_of(map(session.ask_accepted, lines), labels)
+    return Reviewed(recorded, columns_of([session.ask_accepted(LIST_EFFECTIVE + b" " + path_word(path))], labels), labels)
 
 
 class PeopleAnswers(NamedTuple):
@@ -91,7 +90,7 @@ def rights_of(reviewed: Reviewed, folders: Set[int], granted: List[Vector], is_a
     reaches: Dict[int, bytes] = {}  # and to what is one perhaps, as the next file is in it.
     labels, place = reviewed.files.labels, 0
     classes: Counts[Tuple[int, bool, bytes]] = Counter()
-    for parent, _, names in reviewed.parts():
+    for _, _, parent, _, names in reviewed.parts():
         if parent not in insides:
             insides[parent] = everybody if is_alone else inside(reaches[parent], granted[labels[parent]])
         reach, end = insides[parent], place + len(names)
@@ -186,7 +185,7 @@ def ask_people(program: str, source: Source, given: argparse.Namespace, passwd: 
     entries = [[it.text() for it in entries_of(text) if it.effective != NOTHING] for text in answers.entries.values]
     return PeopleAnswers([shown(everybody.shown(user)) for user in users],
                          [bytes([vector[place] for place in places]) for vector in answers.vectors],
-                         [[its[place] for place in places] for its in answers.reasons], entries, answers.lists)
+                         [list(map(its.of, places)) for its in answers.reasons], entries, answers.lists)
 
 
 def data_of(program: str, reviewed: Reviewed, source: Source, given: argparse.Namespace,
@@ -195,7 +194,7 @@ def data_of(program: str, reviewed: Reviewed, source: Source, given: argparse.Na
     bodies, (_, files, _) = reviewed.labels.bodies(), reviewed
     parts = reviewed.parts()
     parents = [its.parent for its in parts for _ in its.names]
-    folders = {place for place, path in enumerate(files.paths) if path in files.folders}.union(parents) - {ABOVE}
+    folders = {*files.folders, *parents} - {ABOVE}
     answers = ask_people(program, source, given, passwd, group, bodies)
     rights = rights_of(reviewed, folders, answers.granted, given.file_alone)
     kinds: Numbered[Tuple[int, bool]] = Numbered()  # A list, and whether its file is a directory.

@@ -1,97 +1,85 @@
-"""The files of a page: those of the listings before and after the edits, and what each is in."""
+"""The files of a page: those of the listings before and after the edits, with their names, and what each is in."""
 from __future__ import annotations
 
-import itertools
-import operator
 from array import array
-from typing import Iterable, Iterator, List, NamedTuple, Set, Tuple
+from typing import Dict, Iterable, List, Optional, Sequence, Set
 
-from ..base.names import is_below, read_name
-from ..base.numbered import Numbered
-from ..model.marks import NO_MARKS, Marks
-from ..program.protocol import DEFAULT_ENTRY, FILE_HEAD
+from ..base.names import sorting_key
+from ..base.numbered import Numbers
+from ..model.file_columns import ABOVE, FileColumns, by_folder, columns_of
 from ..program.session import OutputSlice
-
-ABOVE = -1  # What no recorded directory is above.
-
-
-def records_of(listing: OutputSlice) -> Iterator[List[bytes]]:
-    """The records of a listing of the program in their order, many at once."""
-    rest = b""
-    for piece in listing.pieces():
-        *records, rest = (rest + piece).split(b"\n\n")
-        yield records
+from .columns import GONE, Tables, View, packed, shown_name
 
 
-class Labels(Numbered[bytes]):
-    """Owner, group, flags and lists of files."""
-
-    def bodies(self) -> List[bytes]:
-        return [body + b"\n" for body in self.values]
-
-
-class PageListing(NamedTuple):
-    """What is there at one time, in path order."""
-
-    paths: List[bytes]
-    labels: "array[int]"  # Of each file.
-    folders: Set[bytes]  # The paths whose records say that they are directories.
+def list_files(listing: Iterable[OutputSlice], before: Optional[FileColumns] = None) -> FileColumns:
+    """The files of a listing; where there are the same as before, their paths are kept once."""
+    found = columns_of(listing)
+    return found if before is None or found.paths != before.paths else found._replace(paths=before.paths)
 
 
-class PageTree:
-    """The listings of a page, and the marks of its files."""
+class Names(Numbers[bytes]):
+    """The names of files."""
 
-    def __init__(self, marks: Marks = NO_MARKS) -> None:
-        self.marks = marks
-        self.listings: List[PageListing] = []
-
-    def add(self, blocks: Iterable[List[bytes]], labels: Labels) -> PageListing:
-        """Adds the files of a listing."""
-        found = PageListing([], array("i"), set())
-        for records in blocks:
-            parts = [record.partition(b"\n") for record in records]
-            names = [first[len(FILE_HEAD) :] for first, _, _ in parts]
-            bodies = [body for _, _, body in parts]
-            paths = [b"" if name == b"." else (read_name(name) if b"\\" in name else name).rstrip(b"/")
-                     for name in names]
-            for body in dict.fromkeys(bodies):
-                labels.number(body)
-            lists = {body for body in set(bodies) if DEFAULT_ENTRY in body}  # Those of directories.
-            found.paths.extend(paths)
-            found.labels.extend(map(labels.numbers.__getitem__, bodies))
-            found.folders.update([path for path, name, body in zip(paths, names, bodies)
-                                  if name[-1:] == b"/" or body in lists or not path])
-        if self.listings and self.listings[-1].paths == found.paths:
-            found = found._replace(paths=self.listings[-1].paths)
-        self.listings.append(found)
+    def column(self, names: List[bytes]) -> List[int]:
+        """The next ones: of each how many names before the next new one it is."""
+        known = len(self)
+        numbers = list(map(self.__getitem__, names))
+        if len(self) == known:
+            return [known - number for number in numbers]
+        found = []
+        for number in numbers:
+            found.append(known - number)
+            known = max(known, number + 1)
         return found
 
 
-class FolderFiles(NamedTuple):
-    """Files that follow each other in path order, and are in one directory."""
+class Columns:
+    """The files in path order, so that a file is in an earlier one, and nothing is nested."""
 
-    parent: int  # The place of the nearest recorded directory.
-    depth: int  # How many files they are in.
-    names: List[bytes]  # From that directory on.
+    def __init__(self, listings: List[FileColumns]) -> None:
+        self.listings = listings
+        first = listings[0].paths
+        is_same = listings[-1].paths is first
+        # In the order of their kinds: those of the first listing, and then new ones.
+        self.known = first if is_same else [*dict.fromkeys([*first, *listings[-1].paths])]
+        self.paths = first if is_same else sorted(self.known, key=sorting_key)
+        self.names = Names()
+        self.columns = array("i"), array("i"), array("i")
+        name_of, depths, self.parents = self.columns
+        self.above: Set[int] = set()  # All parents.
+        for its in by_folder(self.paths):
+            self.above.add(its.parent)
+            name_of.extend(self.names.column(its.names))
+            depths.extend([its.depth] * len(its.names))
+            self.parents.extend([its.parent] * len(its.names))
 
+    def labels(self, listing: FileColumns, paths: List[bytes]) -> Sequence[int]:
+        """The labels of some files."""
+        if paths is listing.paths:
+            return listing.labels
+        known = dict(zip(listing.paths, listing.labels))
+        return [known.get(path, GONE) for path in paths]
 
-def by_folder(paths: List[bytes]) -> Iterator[FolderFiles]:
-    """All files, in path order: what the next ones are in is the last one, or one of those that this is in."""
-    above: List[Tuple[bytes, int]] = []  # The last file, and those that it is in, each with its place.
-    place = 0
-    if paths[:1] == [b""]:
-        yield FolderFiles(ABOVE, 0, [b""])
-        above, place = [(b"", 0)], 1
-    parts = (path.rpartition(b"/") for path in itertools.islice(paths, place, None))
-    for folder, its in itertools.groupby(parts, operator.itemgetter(0)):
-        names = [name for _, _, name in its]
-        last = folder + b"/" * (folder != b"") + names[-1]
-        while above and folder != above[-1][0] and not is_below(folder, above[-1][0]):
-            above.pop()
-        nearest, parent = above[-1] if above else (b"", ABOVE)
-        if folder != nearest:  # Which is not recorded.
-            begin = folder[len(nearest) + (nearest != b"") :] + b"/"
-            names = [begin + name for name in names]
-        yield FolderFiles(parent, len(above), names)
-        place += len(names)
-        above.append((last, place - 1))
+    def folders(self, listing: FileColumns, labels: Sequence[int]) -> Set[int]:
+        """The places of what is a directory in a listing: by its record, or since another file is in it."""
+        if labels is listing.labels:
+            return {*listing.folders, *self.above} - {ABOVE}
+        known = {listing.paths[place] for place in listing.folders}
+        found = {place for place, path in enumerate(self.paths) if path in known}
+        return found.union(parent for parent, label in zip(self.parents, labels) if label != GONE) - {ABOVE}
+
+    def data(self, tables: Tables, views: List[View]) -> Dict[str, object]:
+        """The columns: names, depths and kinds; and by places the kind before, where the file was another one."""
+        labels = [self.labels(listing, self.paths) for listing in self.listings]
+        folders = [self.folders(*its) for its in zip(self.listings, labels)]
+        places = sorted(folders[0] | folders[-1])
+        kinds = []
+        for view, listing, its in zip(views[::-1], self.listings[::-1], labels[::-1]):
+            kinds.append(tables.kinds_of(view, its, self.labels(listing, self.known), places))
+            tables.find_insides(kinds[-1], places, self.parents)
+        others = folders[0] ^ folders[-1]
+        if len(kinds) > 1:
+            others.update(place for place, (old, new) in enumerate(zip(kinds[-1], kinds[0])) if old != new)
+        return {"count": len(self.paths), "names": "\n".join(shown_name(name) or "/" for name in self.names),
+                "name": packed(self.columns[0]), "depth": packed(self.columns[1]), "kind": packed(kinds[0]),
+                "changed": {place: kinds[-1][place] for place in sorted(others)}}

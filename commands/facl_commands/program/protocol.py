@@ -114,6 +114,7 @@ ENTRIES_OF, INDEX, ATTRIBUTES_OF = b"why --", b"index", b"attr %d"
 GAINS, GAINS_ALONG_PATHS = b"gains", b"gains --reach"
 NOT_THERE = b"--"  # Of a user or a file, in a line of their answer.
 BELOW, MAY, CAN, WHO = b"below", b"may", b"can", b"who"
+ALL_OF = b"may -- %s 0"  # All files: each alone grants any user the request for nothing.
 MAKE_FILE = b"creat --user=%s --mode=%s --umask=%s --"
 MAKE_DIRECTORY = b"creat -d --user=%s --mode=%s --umask=%s --"
 ADD_USER_WITH = b"useradd -u %d -g %s -- %s"

@@ -18,7 +18,8 @@ from ...program.protocol import ANSWERED, REFUSED
 from ...program.scripts import Unit, read_text
 from ...program.session import lines_of
 from .join import PeopleShown, superusers_of
-from .runs import HERE, HOST, NOT_READABLE, SECONDS, Part, Server, part_options, run_all
+from . import SECONDS
+from .runs import HERE, HOST, NOT_READABLE, Part, Server, part_options, run_all
 
 LONGEST_LINE = 1 << 20  # Bytes; of a server's answer.
 THIS = b"localhost"  # The name of this machine, which needs no ssh.

@@ -27,9 +27,9 @@ from ...program.session import OutputSlice, lines_of
 from ...program.tools import (
     ALL, BY_FOLDER, CHANGES_OF_PEOPLE, COUNTING, DEEP, EDITS, FIRST_FILES, LOOK, OF_RECORDS, TEST, options_that, path_in, split,
 )
-from . import counts
+from . import SECONDS, counts
 from .agreement import check_agreement, files_of_several
-from .runs import HERE, HOST, NOT_READABLE, SECONDS, Answered, Part, Server, part_options, run_all
+from .runs import HERE, HOST, NOT_READABLE, Answered, Part, Server, part_options, run_all
 
 LIKE_HOST = re.compile(rb"[A-Za-z0-9@._-]+:|-[^/]*:")  # What somebody may have meant for a host.
 SEVERAL = b"its files lie in several snapshots; name those of one in a line of its own"

@@ -19,13 +19,13 @@ from ...model.everybody import Everybody
 from ...program.protocol import is_refused
 from ...program.scripts import read_script
 from ...program.session import OutputSlice
+from . import SECONDS
 from .worker import Head, Header, read_head, read_header
 
 NAME_OF_HOST = rb"[A-Za-z0-9_][A-Za-z0-9._-]*"
 HOST = re.compile(rb"((?:" + NAME_OF_HOST + rb"@)?" + NAME_OF_HOST + rb"):(.*)\Z", re.DOTALL)
 HERE = b""  # The host of a snapshot on this machine.
-SECONDS = 600  # That another machine has for its answers,
-PATIENCE = 10  # and that a run has to end after SIGTERM.
+PATIENCE = 10  # Seconds that a run has to end after SIGTERM.
 MOST_READ = 16_777_216  # Bytes of another machine's answers that are read into memory.
 MOST_WRITTEN = 1 << 32  # Bytes that it may write into one file, where there is room.
 MOST_SAID = 10_000  # Bytes of its messages in which the first one is looked for.

@@ -6,15 +6,16 @@ import os
 from typing import List, Optional, Set
 
 from ...base.messages import Command, Failure, parser_of
-from ...base.names import at_or_below, parent_of, read_path, shown_path
+from ...base.names import highest, parent_of, places_below, read_path, shown_path
 from ...base.new_file import NewFile
 from ...base.programs import find_program
 from ...base.tables import add_output, paged, write_json, write_table
 from ...model import choice, overview, sources, split_tree
 from ...model.entries import NamesOfIds
-from ...model.everybody import World, listing_of, world_of
+from ...model.everybody import World, files_of, world_of
+from ...model.file_columns import FileTree
 from ...model.sources import Source
-from .findings import KINDS, WEIGHTS, Findings, FoundFile, edits_of
+from .findings import KINDS, WEIGHTS, Findings, FoundFiles, edits_of
 from .lists import Audited, default_not_inherited, of_records
 from .report import SCHEMA, AuditReport, json_of, lines_of, table_of, table_of_files
 from .rights import of_everybody, of_writers, removable
@@ -80,21 +81,28 @@ def folders_in(world: World, words: List[str]) -> List[bytes]:
     return (not words and choice.folders_made_of(world.session)) or choice.folders_of(world.session, words)
 
 
-def across_folders(sets: List[List[bytes]], paths: Set[bytes]) -> List[FoundFile]:
+def across_folders(sets: List[List[bytes]], paths: Set[bytes]) -> FoundFiles:
     """Those of some plain files that are in another folder than the first name; a folder that is mounted at two places
     is one folder."""
-    first_of, found = {name: names[0] for names in sets for name in names}, []
+    first_of, found = {name: names[0] for names in sets for name in names}, FoundFiles()
     for names in sets:
         folders = [first_of.get(parent_of(name), parent_of(name)) for name in names]
-        found += [FoundFile(name, b"is one file with " + shown_path(names[0]), b"rm")
-                  for name, folder in zip(names, folders) if folder != folders[0] and name in paths]
+        its = [name for name, folder in zip(names, folders) if folder != folders[0] and name in paths]
+        found.add(its, [(b"is one file with " + shown_path(names[0]), b"rm")] * len(its))
     return found
 
 
 def findings_of(audited: Audited, links: List[List[bytes]]) -> Findings:
-    plain = {path for path in audited.paths if not audited.files[path].is_directory} if links else set()
+    tree = audited.tree
+    plain = {path for path, kind in zip(tree.paths, tree.kinds) if not tree.files[kind].is_directory} if links else set()
     return {**of_everybody(audited), **of_writers(audited), **of_records(audited, removable(audited)),
             "default-not-inherited": default_not_inherited(audited), "links-across-folders": across_folders(links, plain)}
+
+
+def part_of(tree: FileTree, folders: List[bytes], first: int) -> FileTree:
+    """The files at or below some folders, from a place on."""
+    places = [places_below(tree.paths, it) for it in highest(folders)]
+    return tree.part((max(first, start), end) for start, end in places if max(first, start) < end)
 
 
 def report_of(given: argparse.Namespace, source: Source, program: str) -> AuditReport:
@@ -105,14 +113,14 @@ def report_of(given: argparse.Namespace, source: Source, program: str) -> AuditR
     for folder in parts:
         with world_of(program, source._replace(folder=folder)) as world:
             report.folders = report.folders or folders_in(world, given.folders)
-            files = listing_of(world).files
-            paths = at_or_below(once.of_part(files) if report.parts else files, report.folders)
-            records = list(dict.fromkeys(map(files.__getitem__, paths)))
+            whole = files_of(world)
+            tree = part_of(whole, report.folders, len(whole.paths) - len(once.of_part(whole.paths)) if report.parts else 0)
+            kinds = {kind: tree.files[kind] for kind in dict.fromkeys(tree.kinds)}
             ids = NamesOfIds(world.texts.passwd, world.texts.group)
-            for name, found in findings_of(Audited(world, given, program, files, paths, records, ids), links).items():
-                report.findings[name] += found
-            report.files += len(paths)
-            report.recorded.update(line.path for line in report.lines if line.path in files)
+            for name, found in findings_of(Audited(world, given, program, tree, kinds, ids), links).items():
+                report.findings[name].add(found.paths, found.mends)
+            report.files += len(tree.paths)
+            report.recorded.update({line.path for line in report.lines}.intersection(whole.paths))
             report.is_whole = sources.find_tops(world.session, world.session.folder) == [b""]
     report.accept()
     return report

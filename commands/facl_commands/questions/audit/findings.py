@@ -5,8 +5,9 @@ That file may be one that the caller cannot read, as by sudo: messages have no w
 """
 from __future__ import annotations
 
+import itertools
 import os
-from typing import Dict, Iterator, List, NamedTuple, Set
+from typing import Dict, Iterable, Iterator, List, NamedTuple, Optional, Set, Tuple
 
 from ...base.messages import Failure
 from ...base.names import file_word, is_below, read_path
@@ -53,6 +54,9 @@ OF_EVERYBODY = {"writable-by-everybody", "readable-by-everybody", "execute-for-e
 BY_NAME: Dict[str, KindOfFinding] = {kind.name: kind for kind in KINDS}
 
 
+Mend = Tuple[bytes, bytes]  # What is found of a file, in words, which may be none, and what mends it.
+
+
 class FoundFile(NamedTuple):
     """A file of a finding."""
 
@@ -65,14 +69,39 @@ class FoundFile(NamedTuple):
         return self.edit + b" " + file_word(self.path, is_whole)
 
 
-Findings = Dict[str, List[FoundFile]]  # By the names of kinds.
+class FoundFiles:
+    """The files of a finding. Many have one text, which is there once."""
+
+    def __init__(self) -> None:
+        self.paths: List[bytes] = []
+        self.mends: List[Mend] = []
+
+    def __len__(self) -> int:
+        return len(self.paths)
+
+    def add(self, paths: Iterable[bytes], mends: Iterable[Mend]) -> None:
+        self.paths += paths
+        self.mends += mends
+
+    def first(self, number: Optional[int] = None) -> Iterator[FoundFile]:
+        """As many of them; all without a number."""
+        return (FoundFile(path, *mend) for path, mend in itertools.islice(zip(self.paths, self.mends), number))
+
+    def without(self, paths: Set[bytes]) -> FoundFiles:
+        """The others."""
+        rest, kept = FoundFiles(), [path not in paths for path in self.paths]
+        rest.add(itertools.compress(self.paths, kept), itertools.compress(self.mends, kept))
+        return rest
 
 
-def edits_of(found: List[FoundFile], is_whole: bool) -> Iterator[bytes]:
+Findings = Dict[str, FoundFiles]  # By the names of kinds.
+
+
+def edits_of(found: FoundFiles, is_whole: bool) -> Iterator[bytes]:
     """The lines of a script that mend all of these, below one that says so: files with one edit are in one line where it has
     room."""
     files: Dict[bytes, List[bytes]] = {}
-    for it in found:
+    for it in found.first():
         files.setdefault(it.edit, []).append(file_word(it.path, is_whole))
     if files:
         yield FOR_PLAN
@@ -124,15 +153,15 @@ def sort_out(findings: Findings, lines: List[Accepted]) -> Sorted:
     found = Sorted({}, set())
     for kind, files in findings.items():
         its = [line for line in lines if line.kind == kind]
-        accepting = [{line for line in its if line.has(file.path)} for file in files] if its else []
-        found.rest[kind] = [file for file, by in zip(files, accepting) if not by] if its else files
-        found.used.update(*accepting)
+        accepted = {path: by for path in files.paths for by in [[line for line in its if line.has(path)]] if by} if its else {}
+        found.rest[kind] = files.without({*accepted}) if accepted else files
+        found.used.update(*accepted.values())
     return found
 
 
 def why_unused(line: Accepted, findings: Findings) -> bytes:
     """What is said of a line that accepts nothing."""
     text = b"%s, line %d: %s is not found" % (line.file, line.number, line.kind.encode())
-    if not line.is_folder and any(is_below(it.path, line.path) for it in findings[line.kind]):
+    if not line.is_folder and any(is_below(path, line.path) for path in findings[line.kind].paths):
         return text + b" at the path, but below it: end the path with a slash"
     return text + b" at the path: remove the line"

@@ -6,6 +6,7 @@ from __future__ import annotations
 
 import argparse
 from functools import partial
+from itertools import compress
 from typing import Callable, Dict, List, NamedTuple, Optional, Tuple
 
 from ...base import accounts
@@ -15,12 +16,13 @@ from ...model.entries import (
     read_record,
 )
 from ...model.everybody import World
-from ...model.records import File, Files
-from .findings import Findings, FoundFile
+from ...model.file_columns import FileTree
+from ...model.records import File
+from .findings import Findings, FoundFiles, Mend
 
 SET_USER, SET_GROUP = 4, 2  # In the first digit of a mode.
 SUPERUSER = b"%d" % accounts.SUPERUSER
-OfFile = Optional[Tuple[bytes, bytes]]  # What is found of a file, and its edit.
+OfFile = Optional[Mend]
 Look = Callable[[File, ReadRecord, NamesOfIds], OfFile]
 
 
@@ -30,10 +32,15 @@ class Audited(NamedTuple):
     world: World
     given: argparse.Namespace
     program: str
-    files: Files
-    paths: List[bytes]  # Those at or below the folders, in path order.
-    records: List[File]  # Each different one of their files.
+    tree: FileTree  # At or below the folders.
+    kinds: Dict[int, File]  # What its files are, each different one once.
     ids: NamesOfIds
+
+    def found(self, mends: Dict[int, Mend]) -> FoundFiles:
+        """What is found of all files of some kinds."""
+        found, its = FoundFiles(), [*map(mends.get, self.tree.kinds)] if mends else []
+        found.add(compress(self.tree.paths, its), filter(None, its))
+        return found
 
 
 def without_flag(flag: int, file: File, record: ReadRecord, _ids: NamesOfIds) -> OfFile:
@@ -112,35 +119,34 @@ LOOKS: Dict[str, Look] = {
 }
 
 
-def of_records(audited: Audited, removable: Dict[bytes, Tuple[bytes, bytes]]) -> Findings:
+def of_records(audited: Audited, removable: Dict[bytes, Mend]) -> Findings:
     """What is found of files by their records, each of which is looked at once."""
-    found: Findings = {name: [] for name in (*LOOKS, "entry-without-effect")}
-    known: Dict[File, List[Tuple[str, bytes, bytes]]] = {}
-    for file in audited.records:
+    found: Dict[str, Dict[int, Mend]] = {name: {} for name in (*LOOKS, "entry-without-effect")}
+    for kind, file in audited.kinds.items():
         its = {name: look(file, read_record(file.body), audited.ids) for name, look in LOOKS.items()}
         its["entry-without-effect"] = removable.get(file.body)
-        known[file] = [(name, *of_file) for name, of_file in its.items() if of_file is not None]
-    for path in audited.paths:
-        for name, detail, edit in known[audited.files[path]]:
-            found[name].append(FoundFile(path, detail, edit))
-    return found
+        for name, mend in its.items():
+            if mend is not None:
+                found[name][kind] = mend
+    return {name: audited.found(mends) for name, mends in found.items()}
 
 
-def default_not_inherited(audited: Audited) -> List[FoundFile]:
+def default_not_inherited(audited: Audited) -> FoundFiles:
     """Directories that lack default entries which the directory above has."""
-    files, ids, found = audited.files, audited.ids, []
+    tree, ids, found = audited.tree, audited.ids, FoundFiles()
     known: Dict[Tuple[bytes, bytes], List[Entry]] = {}
-    for path in audited.paths:
-        above = files.get(parent_of(path)) if path and files[path].is_directory else None
+    is_directory = [file.is_directory for file in tree.files]
+    for path in compress(tree.paths, map(is_directory.__getitem__, tree.kinds)):
+        above = tree.above.get(parent_of(path)) if path else None
         if above is not None:
-            pair = above.body, files[path].body
+            pair = above.body, tree.above[path].body
             if pair not in known:
                 known[pair] = lacking_defaults(*map(read_record, pair))
             if known[pair]:
                 keys = b", ".join(ids.shown(it.key) for it in known[pair] if it.is_named())
                 text = b"lacks %s of %s" % (keys or b"the default ACL", shown_path(parent_of(path)))
                 words = b",".join(ids.entry(it, b"d:") for it in known[pair])
-                found.append(FoundFile(path, text, b"setfacl -n -m " + words))
+                found.add([path], [(text, b"setfacl -n -m " + words)])
     return found
 
 

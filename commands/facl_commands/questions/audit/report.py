@@ -15,7 +15,7 @@ from ...model.everybody import beside
 from ...model.meta import meta_of, named
 from ...model.sources import Source
 from .findings import (
-    HIGH, KINDS, LOW, MIDDLE, OF_EVERYBODY, WEIGHTS, Accepted, Findings, FoundFile, KindOfFinding, read_accepted, sort_out,
+    HIGH, KINDS, LOW, MIDDLE, OF_EVERYBODY, WEIGHTS, Accepted, Findings, FoundFiles, KindOfFinding, read_accepted, sort_out,
     why_unused,
 )
 
@@ -33,7 +33,7 @@ class AuditReport:
         self.meta = split_tree.meta_of_all(self.parts) if self.parts else meta_of(source.folder)
         self.folders: List[bytes] = []
         self.files = 0  # At or below these.
-        self.findings: Findings = {kind.name: [] for kind in KINDS}
+        self.findings: Findings = {kind.name: FoundFiles() for kind in KINDS}
         self.accepted = 0  # Files.
         self.lines = read_accepted(given.accepted) if given.accepted is not None else []
         self.recorded: Set[bytes] = set()  # The paths of lines that are in the snapshot.
@@ -59,18 +59,19 @@ class AuditReport:
         return [kind for weight in WEIGHTS for kind in KINDS if kind.weight == weight and self.findings.get(kind.name)]
 
 
-def lines_of_kind(kind: KindOfFinding, found: List[FoundFile], is_whole: bool, paint: Paint) -> Iterator[bytes]:
+def lines_of_kind(kind: KindOfFinding, found: FoundFiles, is_whole: bool, paint: Paint) -> Iterator[bytes]:
     """A finding: its number of files, what it is, the first names and the line that mends the first one."""
     painter = {HIGH: paint.red, MIDDLE: paint.yellow, LOW: paint.dim}[kind.weight]
     head = "%-7s %-*s  " % (kind.weight, NAME_WIDTH, kind.name)
     yield painter(head.encode()) + paint.bold(counted(len(found), "file"))
     yield fitting_line(kind.meaning.encode(), INDENT)
-    detail = b" (" + found[0].detail + b")" if found[0].detail else b""
-    yield fitting_line(b"first: " + shown_path(found[0].path) + detail, INDENT)
+    first = next(found.first())
+    detail = b" (" + first.detail + b")" if first.detail else b""
+    yield fitting_line(b"first: " + shown_path(first.path) + detail, INDENT)
     if len(found) > 1:
-        names = b", ".join(shown_path(it.path) for it in found[1 : FIRST + 1])
+        names = b", ".join(map(shown_path, found.paths[1 : FIRST + 1]))
         yield fitting_line(b"then:  " + names + b", .." * (len(found) > FIRST + 1), INDENT)
-    yield b" " * INDENT + b"for facl plan: " + shown(found[0].line(is_whole))  # Whole, to be copied.
+    yield b" " * INDENT + b"for facl plan: " + shown(first.line(is_whole))  # Whole, to be copied.
 
 
 def summary(report: AuditReport) -> bytes:
@@ -127,21 +128,21 @@ def written(words: List[str]) -> bytes:
 
 def table_of(report: AuditReport) -> Table:
     """A row for each finding."""
-    rows = [[kind.weight.encode(), kind.name.encode(), b"%d" % len(found), shown_path(found[0].path), found[0].detail,
-             found[0].line(report.is_whole)] for kind in report.kinds() for found in [report.findings[kind.name]]]
+    rows = [[kind.weight.encode(), kind.name.encode(), b"%d" % len(found), shown_path(it.path), it.detail, it.line(report.is_whole)]
+            for kind in report.kinds() for found in [report.findings[kind.name]] for it in found.first(1)]
     columns = [Column("WEIGHT"), Column("FINDING"), Column("FILES", True), Column("FIRST"), Column("WHAT"),
                Column("FOR FACL PLAN")]
     return Table(columns, rows)
 
 
-def table_of_files(found: List[FoundFile], is_whole: bool) -> Table:
+def table_of_files(found: FoundFiles, is_whole: bool) -> Table:
     """A row for each file of a finding."""
-    rows = [[shown_path(it.path), it.detail, it.line(is_whole)] for it in found]
+    rows = [[shown_path(it.path), it.detail, it.line(is_whole)] for it in found.first()]
     return Table([Column("FILE"), Column("WHAT"), Column("FOR FACL PLAN")], rows)
 
 
-def json_of_kind(kind: KindOfFinding, found: List[FoundFile], has_all: bool, is_whole: bool) -> Dict[str, object]:
-    texts = [(file_name(it.path, is_whole), it.detail, it.line(is_whole)) for it in (found if has_all else found[:FIRST])]
+def json_of_kind(kind: KindOfFinding, found: FoundFiles, has_all: bool, is_whole: bool) -> Dict[str, object]:
+    texts = [(file_name(it.path, is_whole), it.detail, it.line(is_whole)) for it in found.first(None if has_all else FIRST)]
     files = [dict(zip(("path", "what", "edit"), map(json_text, its))) for its in texts]
     return {"finding": kind.name, "weight": kind.weight, "meaning": kind.meaning, "count": len(found), "files": files}
 

@@ -2,11 +2,11 @@
 entries without effect. Many files have few different records, so records are asked about, and not files."""
 from __future__ import annotations
 
-from typing import Dict, Iterable, List, NamedTuple, Optional, Tuple
+from typing import Dict, Iterable, Iterator, List, NamedTuple, Optional, Tuple
 
 from ...base.messages import Failure
 from ...base.names import parent_of, path_word, shown_path, way_to, write_user
-from ...model.alike import Alike, alike_of
+from ...model.alike import AlikeFiles, AlikeKey
 from ...model.choice import is_chosen
 from ...model.entries import GROUP, OTHER, USER, Key, digits, flag_digit, named, read_record, without
 from ...model.label_answers import PeopleTexts, ask_vectors
@@ -16,14 +16,14 @@ from ...model.rules_of_lists import inside, is_sticky, writing
 from ...program.protocol import FILE_HEAD, LIST, WHO
 from ...program.session import LINES_ROOM, parts_of, session_over
 from ...program.tools import path_in
-from .findings import Findings, FoundFile
+from .findings import OF_EVERYBODY, Findings, FoundFiles, Mend
 from .lists import Audited
 
 READ, WRITE, EXECUTE = b"r", b"w", b"x"
 AT_ONCE = 500  # Questions.
 
 
-def without_entries(audited: Audited, keys: Iterable[Key]) -> Tuple[bytes, bytes]:
+def without_entries(audited: Audited, keys: Iterable[Key]) -> Mend:
     """Entries that can go, as a person reads them, and the edit that removes them."""
     known = list(keys)
     return b", ".join(map(audited.ids.shown, known)), b"setfacl -n -x " + b",".join(map(audited.ids.word, known))
@@ -40,14 +40,20 @@ class OpenRight(NamedTuple):
     detail: bytes
     edit: bytes
 
+    def finding(self, closed: Optional[bytes]) -> Tuple[str, Mend]:
+        """The finding, and what is found; below a directory that everybody else cannot search, or where there is none."""
+        if closed is None:
+            return self.open, (self.detail, self.edit)
+        return self.behind, (b"closed by " + shown_path(closed), self.edit)
+
 
 class EverybodyRights:
     """What everybody else may do, by the records of files and of the directories above them."""
 
     def __init__(self, audited: Audited) -> None:
-        self.files, everybody = audited.files, audited.world.everybody
+        self.above, everybody = audited.tree.above, audited.world.everybody
         people = PeopleTexts(everybody.passwd(), everybody.with_group(audited.world.texts.group), b"")
-        bodies = list(dict.fromkeys(file.body for file in audited.files.values()))
+        bodies = list(dict.fromkeys(file.body for file in audited.tree.files))
         self.vectors = ask_vectors(audited.program, people, bodies)[0].of_body
         self.closed: Dict[bytes, Optional[bytes]] = {}
 
@@ -59,7 +65,7 @@ class EverybodyRights:
         """The highest of a directory and those above it that everybody else cannot search."""
         for it in way_to(directory, self.closed):
             above = self.closed[parent_of(it)] if it else None
-            is_open = it not in self.files or inside(b"\1", self.vectors[self.files[it].body]) != b"\0"
+            is_open = it not in self.above or inside(b"\1", self.vectors[self.above[it].body]) != b"\0"
             self.closed[it] = it if above is None and not is_open else above
         return self.closed[directory]
 
@@ -74,17 +80,22 @@ class EverybodyRights:
 
 
 def of_everybody(audited: Audited) -> Findings:
-    everybody = EverybodyRights(audited)
-    found: Findings = {}
-    known = {file: everybody.of(file) for file in audited.records}
-    for path in audited.paths:
-        its = known[audited.files[path]]
-        closed = everybody.closed_at(parent_of(path)) if its and path and not audited.given.file_alone else None
-        for it in its:
-            if closed is None:
-                found.setdefault(it.open, []).append(FoundFile(path, it.detail, it.edit))
-            elif it.behind:
-                found.setdefault(it.behind, []).append(FoundFile(path, b"closed by " + shown_path(closed), it.edit))
+    everybody, tree = EverybodyRights(audited), audited.tree
+    found: Findings = {name: FoundFiles() for name in OF_EVERYBODY}
+    rights = {kind: its for kind, file in audited.kinds.items() for its in [everybody.of(file)] if its}
+    known: Dict[Tuple[int, Optional[bytes]], List[Tuple[str, Mend]]] = {}
+    kinds = tree.kinds
+    for run in tree.runs if rights else []:
+        places = [place for place in range(run.start, run.end) if kinds[place] in rights]
+        is_judged = bool(places) and not audited.given.file_alone
+        closed = everybody.closed_at(run.folder) if is_judged and run.folder is not None else None
+        for place in places:
+            key = kinds[place], closed
+            if key not in known:
+                known[key] = [it for it in (right.finding(closed) for right in rights[key[0]]) if it[0]]
+            for name, mend in known[key]:
+                found[name].paths.append(tree.paths[place])
+                found[name].mends.append(mend)
     return found
 
 
@@ -119,31 +130,29 @@ class Writers:
     """The users who may write files that are judged alike: who may by the record, and by those of the directories above
     can search all of these, as path_resolution(7) asks."""
 
-    def __init__(self, audited: Audited, teams: Teams, groups: List[Alike]) -> None:
-        self.audited, self.files = audited, audited.files
+    def __init__(self, audited: Audited, teams: Teams, groups: Dict[AlikeKey, bytes]) -> None:
+        self.audited, self.files = audited, audited.tree.above
         self.bits = {write_user(name): bit for name, bit in teams.bits.items()}
-        first = {it.file: it.first() for it in reversed(groups)}
-        self.alone = self.ask([(writing(file.is_directory), path) for file, path in first.items()])
+        first = {audited.kinds[kind]: path for (_, kind), path in reversed(groups.items())}
+        self.alone = self.ask({file: (writing(file.is_directory), path) for file, path in first.items()})
         above: Dict[bytes, None] = {}
-        for it in groups if not audited.given.file_alone else []:
-            above.update(dict.fromkeys(way_to(parent_of(it.first()), above) if it.first() else []))
-        known = {self.files[path]: path for path in above if path in self.files}
-        self.search = self.ask([(EXECUTE, path) for path in known.values()])
+        for path in groups.values() if not audited.given.file_alone else []:
+            above.update(dict.fromkeys(way_to(parent_of(path), above) if path else []))
+        self.search = self.ask({self.files[path]: (EXECUTE, path) for path in above if path in self.files})
         self.inside: Dict[bytes, int] = {}  # By directory: who gets to what is in it.
 
-    def ask(self, questions: List[Tuple[bytes, bytes]]) -> Dict[File, int]:
+    def ask(self, questions: Dict[File, Tuple[bytes, bytes]]) -> Dict[File, int]:
         """Who has a right on each of some files alone, by record. A listing ends each answer: no name of a user is its
         first line."""
-        found: Dict[File, int] = {}
+        return {file: sum(self.bits.get(user, 0) for user in answer.partition(FILE_HEAD)[0].split(b"\n"))
+                for file, answer in zip(questions, self.answers([*questions.values()]))}
+
+    def answers(self, questions: List[Tuple[bytes, bytes]]) -> Iterator[bytes]:
+        """The answer of each question, with the listing."""
         for start in range(0, len(questions), AT_ONCE):
-            part = questions[start : start + AT_ONCE]
             lines = [b"%s -- %s %s\n%s %s" % (WHO, letters, word, LIST, word)
-                     for letters, path in part for word in [path_word(path)]]
-            answers = self.audited.world.session.ask_accepted(b"\n".join(lines)).records()
-            for (_, path), answer in zip(part, answers):
-                users = answer.partition(FILE_HEAD)[0].split(b"\n")
-                found[self.files[path]] = sum(self.bits.get(user, 0) for user in users)
-        return found
+                     for letters, path in questions[start : start + AT_ONCE] for word in [path_word(path)]]
+            yield from self.audited.world.session.ask_accepted(b"\n".join(lines)).records()
 
     def inside_of(self, directory: bytes) -> int:
         for it in way_to(directory, self.inside):
@@ -151,9 +160,10 @@ class Writers:
             self.inside[it] = above & self.search[self.files[it]] if it in self.files else above
         return self.inside[directory]
 
-    def of(self, alike: Alike) -> int:
-        is_alone = self.audited.given.file_alone or not alike.first()
-        return self.alone[alike.file] & (-1 if is_alone else self.inside_of(parent_of(alike.first())))
+    def of(self, file: File, path: bytes) -> int:
+        """Those who may write files that are judged as the one at a path."""
+        is_alone = self.audited.given.file_alone or not path
+        return self.alone[file] & (-1 if is_alone else self.inside_of(parent_of(path)))
 
 
 class WritingEntries(NamedTuple):
@@ -178,22 +188,26 @@ def of_writers(audited: Audited) -> Findings:
     """Of files whose records name a user or a group: users who may write where nobody else of their groups may, and several groups
     that may write in a directory."""
     teams = Teams(audited)
-    entries = {file: writing_entries(audited, teams, file) for file in audited.records if named(read_record(file.body).access)}
-    paths = [path for path in audited.paths if audited.files[path] in entries]
-    groups = alike_of(audited.files, paths, audited.given.file_alone)
-    writers = Writers(audited, teams, groups)
-    found: Findings = {"writable-by-teams": [], "writer-outside-groups": []}
-    for alike in groups:
-        may, its = writers.of(alike), entries[alike.file]
+    entries = {kind: its for kind, file in audited.kinds.items() if named(read_record(file.body).access)
+               for its in [writing_entries(audited, teams, file)] if its.users or len(its.teams) > 1}
+    alike = AlikeFiles(audited.tree, set(entries), audited.given.file_alone)
+    writers = Writers(audited, teams, alike.first)
+    mends: Dict[str, Dict[AlikeKey, Mend]] = {"writable-by-teams": {}, "writer-outside-groups": {}}
+    for key, path in alike.first.items():
+        file, its = audited.kinds[key[1]], entries[key[1]]
+        may, record = writers.of(file, path), read_record(file.body)
         gids = [gid for members, gid in its.teams.items() if members & may]
         if len(gids) > 1:
-            text, record = b", ".join(audited.ids.shown((GROUP, it)) for it in gids), read_record(alike.file.body)
-            edit = b"chmod " + digits(record, flag_digit(record.flags) | 1)
-            found["writable-by-teams"] += [FoundFile(path, text, edit) for path in alike.paths]
-        keys = [key for key, user, fellows in its.users if user & may and not fellows & may]
-        if keys:
-            text, edit = without_entries(audited, keys)
-            found["writer-outside-groups"] += [FoundFile(path, text, edit) for path in alike.paths]
+            mends["writable-by-teams"][key] = (b", ".join(audited.ids.shown((GROUP, it)) for it in gids),
+                                               b"chmod " + digits(record, flag_digit(record.flags) | 1))
+        outside = [entry for entry, user, fellows in its.users if user & may and not fellows & may]
+        if outside:
+            mends["writer-outside-groups"][key] = without_entries(audited, outside)
+    paths = alike.paths(key for of_key in mends.values() for key in of_key)
+    found: Findings = {name: FoundFiles() for name in mends}
+    for name, of_key in mends.items():
+        for key, mend in of_key.items():
+            found[name].add(paths[key], [mend] * len(paths[key]))
     return found
 
 
@@ -219,9 +233,9 @@ def without_effect(audited: Audited, removals: List[Removal]) -> List[Removal]:
     return [removal for place, removal in enumerate(removals) if b"%d" % place not in changed]
 
 
-def removable(audited: Audited) -> Dict[bytes, Tuple[bytes, bytes]]:
+def removable(audited: Audited) -> Dict[bytes, Mend]:
     """By record what is found of the entries that can go together; where each can go and not all of them, of the first."""
-    bodies = dict.fromkeys(file.body for file in audited.records)
+    bodies = dict.fromkeys(file.body for file in audited.kinds.values())
     single: List[Removal] = [(body, (key,)) for body in bodies for key in named(read_record(body).access)
                              if audited.ids.has(key)]
     of_body: Dict[bytes, Tuple[Key, ...]] = {}

@@ -1,14 +1,14 @@
 """Whether rules hold in a snapshot, by the program's answers; and those that hold, as a start for a file of them."""
 from __future__ import annotations
 
-from typing import Dict, Iterator, List, NamedTuple, Set, Tuple
+from typing import Dict, Iterator, List, NamedTuple, Optional, Set, Tuple
 
-from ...base.names import path_word, read_name, shown_path, sorting_key, write_user
+from ...base.names import path_word, places_below, read_name, shown_path, write_user
 from ...model.choice import is_recorded
 from ...model.entries import Entries, entries_of
-from ...model.everybody import World
+from ...model.everybody import World, files_of
 from ...model.people import Group
-from ...model.records import Files, name_of, path_of, paths_of, records_in
+from ...model.records import name_of, path_of, paths_in, paths_of, records_in
 from ...model.rules_of_lists import grants_search, writing
 from ...model.sources import find_tops
 from ...program.session import OutputSlice
@@ -51,21 +51,13 @@ class RuleOutcome(NamedTuple):
         return RuleOutcome(self.rule, self.files + other.files, [found[place] for place in sorted(found)])
 
 
-def place_of(paths: List[bytes], key: bytes) -> int:
-    """How many of some paths in path order come before a key of their order."""
-    first, last = 0, len(paths)
-    while first < last:
-        middle = (first + last) // 2
-        first, last = (middle + 1, last) if sorting_key(paths[middle]) < key else (first, middle)
-    return first
-
-
 class Rights:
     """What users may do, as the program answers."""
 
-    def __init__(self, world: World, is_alone: bool, files: Files, paths: List[bytes], chosen: List[bytes]) -> None:
-        self.world, self.files, self.chosen = world, files, chosen
-        self.paths = paths  # The files that are looked at, in path order.
+    def __init__(self, world: World, is_alone: bool, paths: List[bytes], is_all: bool, chosen: List[bytes]) -> None:
+        self.world, self.chosen = world, chosen
+        self.paths, self.is_all = paths, is_all  # The files that are looked at, in path order; whether there are no others.
+        self.directories: Optional[Set[bytes]] = None  # Most rules need not know them.
         self.users = [world.everybody.name, *chosen]  # Everybody else, and those whom the check is about.
         self.reach = world.reach(is_alone)
         self.left_out: Set[bytes] = set()  # Users who are not chosen, and may what a rule gives to others only.
@@ -78,12 +70,16 @@ class Rights:
             self.answers[line] = self.world.session.ask_accepted(line)
         return self.answers[line]
 
+    def is_directory(self, path: bytes) -> bool:
+        if self.directories is None:
+            self.directories = {it for it, file in files_of(self.world).above.items() if file.is_directory}
+        return path in self.directories
+
     def asked(self, right: bytes, top: bytes) -> List[bytes]:
         """The files at or below a path that a right is about, in path order: only directories are entered, and a file
         that is given itself."""
-        key = sorting_key(top)
-        paths = self.paths[place_of(self.paths, key) : place_of(self.paths, key + b"\1")] if top else self.paths
-        return [it for it in paths if self.files[it].is_directory or it == top] if right == ENTER else paths
+        paths = self.paths[slice(*places_below(self.paths, top))]
+        return [it for it in paths if self.is_directory(it) or it == top] if right == ENTER else paths
 
     def some(self, right: bytes, top: bytes) -> Dict[bytes, int]:
         """The users who may at least ask for a right on some file at or below a path, and on how many; of the root, where
@@ -96,13 +92,15 @@ class Rights:
     def may(self, user: bytes, request: bytes, top: bytes) -> Set[bytes]:
         """The files at or below a path on which a user is granted a request. They follow each other in the answer, in
         which no other line begins as theirs."""
-        text = b"\n" + self.ask(b"may", self.world.word_of(user), request).read()
-        if top:
-            starts = (b"\n" + shown_path(top) + b"\n", b"\n" + shown_path(top) + b"/")
-            places = [find(start) for find in (text.find, text.rfind) for start in starts]
-            found = [place for place in places if place >= 0]
-            text = text[min(found) : text.index(b"\n", max(found) + 1)] if found else b""
-        return set(paths_of(list(filter(None, text.split(b"\n")))))
+        answer = self.ask(b"may", self.world.word_of(user), request)
+        if not top:
+            return set(paths_in(answer))
+        text = b"\n" + answer.read()
+        starts = (b"\n" + shown_path(top) + b"\n", b"\n" + shown_path(top) + b"/")
+        places = [find(start) for find in (text.find, text.rfind) for start in starts]
+        found = [place for place in places if place >= 0]
+        names = text[min(found) : text.index(b"\n", max(found) + 1)].split(b"\n") if found else []
+        return set(paths_of(list(filter(None, names))))
 
     def granted(self, user: bytes, right: bytes, top: bytes) -> List[bytes]:
         """The files at or below a path on which a user has a right."""
@@ -111,12 +109,12 @@ class Rights:
             may = self.may(user, REQUESTS[right], top)
             inside = self.may(user, writing(is_directory=True), top) if right == WRITE and may else may
             self.known[key] = [path for path in self.asked(right, top) if path in may
-                               and (path in inside or not self.files[path].is_directory)]
+                               and (path in inside or not self.is_directory(path))]
         return self.known[key]
 
     def who(self, right: bytes, path: bytes) -> List[bytes]:
         """Those of the users who have a right on a file."""
-        request = writing(self.files[path].is_directory) if right == WRITE else REQUESTS[right]
+        request = writing(self.is_directory(path)) if right == WRITE else REQUESTS[right]
         found = set(map(read_name, self.ask(b"who", request, path_word(path)).lines()))
         return [name for name in self.users if name in found]
 
@@ -153,11 +151,10 @@ def outcome(rights: Rights, rule: Rule) -> RuleOutcome:
     asked, some = rights.asked(rule.right, rule.path), rights.some(rule.right, rule.path)
     if rule.kind == ONLY:
         rights.left_out |= some.keys() - rule.users - {*rights.users}
-    is_all = len(rights.paths) == len(rights.files)  # Whether `below` counts no other files.
     violations: List[Violation] = []
     for place, user in enumerate(subjects(rights, rule)):
-        if rule.kind == ALWAYS and rule.right == READ and is_all and some.get(user) == len(asked):
-            continue  # It is so on all files.
+        if rule.kind == ALWAYS and rule.right == READ and rights.is_all and some.get(user) == len(asked):
+            continue  # It is so on all files, and `below` counts no others.
         paths = rights.granted(user, rule.right, rule.path) if user in some else []
         if rule.kind == ALWAYS:  # Those that are missing.
             known = set(paths)
@@ -202,7 +199,7 @@ def rules_of(rights: Rights, reader: RuleReader, right: bytes, top: bytes) -> It
 def rules_that_hold(rights: Rights, reader: RuleReader, tops: List[bytes]) -> Iterator[bytes]:
     """The lines of the file, with a comment for each path."""
     for top in tops:
-        word = rule_path(top, rights.files[top].is_directory if top in rights.files else True)
+        word = rule_path(top, rights.is_directory(top) or not is_recorded(rights.world.session, top))
         yield b"\n# " + word
         rules = [b" ".join([*words, right, word]) for right in (READ, WRITE)
                  for words in rules_of(rights, reader, right, top)]

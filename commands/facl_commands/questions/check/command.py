@@ -10,7 +10,7 @@ from ...base.names import shown, write_user
 from ...base.programs import find_program
 from ...base.tables import add_output, paged, write_json, write_table
 from ...model import choice, overview, sources, split_tree
-from ...model.everybody import World, listing_of, world_of
+from ...model.everybody import World, paths_of, world_of
 from ...model.meta import meta_of, named
 from ...model.people import rows_of
 from ...model.sources import Source
@@ -67,8 +67,7 @@ def chosen_users(world: World, given: argparse.Namespace) -> List[bytes]:
 
 def write_rules(command: Command, world: World, given: argparse.Namespace, source: Source) -> int:
     chosen = chosen_users(world, given)
-    files = listing_of(world).files
-    rights = Rights(world, given.file_alone, files, list(files), chosen)
+    rights = Rights(world, given.file_alone, paths_of(world), True, chosen)
     tops = choice.folders_of(world.session, given.rules)
     if not given.rules:
         tops = choice.folders_made_of(world.session) or tops
@@ -92,12 +91,13 @@ def report_of(given: argparse.Namespace, source: Source, program: str) -> CheckR
                 reader = RuleReader(world, set(chosen), given.with_root,
                                     (lambda path: bool(split_tree.recorded_in(parts, [path]))) if parts else None)
                 rules = reader.read(given.rules)
-            files = listing_of(world).files
+            known = paths_of(world)
+            paths = once.of_part(known) if parts else known
             is_whole = sources.find_tops(world.session, world.session.folder) == [b""]
-            paths = once.of_part(files) if parts else list(files)
-            rights = Rights(world, given.file_alone, files, paths, chosen)
+            rights = Rights(world, given.file_alone, paths, len(paths) == len(known), chosen)
+            here = {b"", *{rule.path for rule in rules}.intersection(known)}
             for rule in rules:
-                if not parts or rule.path in files or not rule.path:  # Else the rule is not about files of the part.
+                if not parts or rule.path in here:  # Else the rule is not about files of the part.
                     found = outcome(rights, rule)
                     outcomes[rule.number] = outcomes[rule.number].joined(found) if rule.number in outcomes else found
             left_out |= rights.left_out

@@ -15,7 +15,7 @@ from ...model.everybody import Everybody
 from ...model.gains import Gain, ask_gains
 from ...model.marks import alone, marks_of
 from ...model.people import rows_of as rows_of_text
-from ...model.records import name_of, path_of, records_in
+from ...model.records import blocks_in, name_of, path_of, records_in
 from ...program.session import OutputSlice, Session
 from . import report
 from .edits import CannotLead, Edits, group_text
@@ -114,7 +114,7 @@ class Comparison:
 
     def pairs(self, is_all: bool = False) -> Iterable[Pair]:
         """What differs in the files that are looked at, and the directories above them; or all of these."""
-        old, new = (records_of_folders(records_in(it), self.folders or [b""]) for it in self.listings)
+        old, new = (records_of_folders(blocks_in(it), self.folders or [b""]) for it in self.listings)
         return pairs_of(old, new, is_all)
 
     def answer(self) -> Differences:

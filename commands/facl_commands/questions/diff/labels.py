@@ -20,7 +20,7 @@ from ...model.rights import ABSENT, GRANTED, is_change, places_in, users_of
 from ...model.rules_of_lists import along_path, inside, lanes
 from ...program.protocol import FILE_HEAD, INDEX
 from ...program.session import session_over
-from .states import ListedFile, Member, Pair, State, members_of
+from .states import ListedFile, Member, Pair, RecordReader, State, members_of
 
 GONE = -1  # In the place of a record that is not there.
 OPEN = 0  # The number of no directories above.
@@ -110,10 +110,11 @@ def wanted_heads(folders: Sequence[bytes]) -> Tuple[bytes, ...]:
     return tuple(heads)
 
 
-def records_of_folders(records: Iterator[bytes], folders: Sequence[bytes]) -> Iterator[bytes]:
+def records_of_folders(blocks: Iterator[List[bytes]], folders: Sequence[bytes]) -> RecordReader:
     """The records that decide on the files in some folders."""
     heads = wanted_heads(folders)
-    return records if FILE_HEAD in heads else (record for record in records if record.startswith(heads))
+    return RecordReader(blocks if FILE_HEAD in heads else (
+        [record for record in block if record.startswith(heads)] for block in blocks))
 
 
 # --- what the program answers of records

@@ -17,6 +17,9 @@ from ...program.protocol import FILE_HEAD
 from ...program.session import OutputSlice, Session
 
 
+FEWEST_PASSED = 16  # Records.
+
+
 class State(NamedTuple):
     """A snapshot: what the program loads of it, and of which system it is."""
 
@@ -154,19 +157,54 @@ def is_first(record: bytes, other: Optional[bytes]) -> bool:
     return other is None or sorting_key(path_of(name_of(record))) <= sorting_key(path_of(name_of(other)))
 
 
-def pairs_of(old: Iterator[bytes], new: Iterator[bytes], is_all: bool = False) -> Iterator[Pair]:
+class RecordReader:
+    """The records of a listing, that come many at once, one by one."""
+
+    def __init__(self, blocks: Iterator[List[bytes]]) -> None:
+        self.blocks = blocks
+        self.block: List[bytes] = []
+        self.place = 0
+
+    def next(self) -> Optional[bytes]:
+        while self.place == len(self.block):
+            block = next(self.blocks, None)
+            if block is None:
+                return None
+            self.block, self.place = block, 0
+        self.place += 1
+        return self.block[self.place - 1]
+
+    def part(self, size: int) -> List[bytes]:
+        """The next ones of those that came with the last one."""
+        return self.block[self.place : self.place + size]
+
+
+def pass_same(old: RecordReader, new: RecordReader) -> None:
+    """Passes over the next records as far as they are the same in both, but for the last of them, after which others may come."""
+    size = FEWEST_PASSED
+    while size >= FEWEST_PASSED:
+        part = old.part(size)
+        is_same = len(part) == size and part == new.part(size)
+        for reader in (old, new) if is_same else ():
+            reader.place += size - 1
+        size = 2 * size if is_same else size // 2
+
+
+def pairs_of(old: RecordReader, new: RecordReader, is_all: bool = False) -> Iterator[Pair]:
     """The paths of two listings whose files differ, or all of them, in path order."""
-    before, after = next(old, None), next(new, None)
+    before, after = old.next(), new.next()
     while before is not None or after is not None:
         has_old = before is not None and is_first(before, after) if before != after else True
         has_new = after is not None and is_first(after, before) if before != after else True
-        next_old = next(old, None) if has_old else before
-        next_new = next(new, None) if has_new else after
+        next_old = old.next() if has_old else before
+        next_new = new.next() if has_new else after
         if is_all or before != after or next_old != next_new:
             pair = pair_of(found_of(before, next_old) if has_old else None,
                            found_of(after, next_new) if has_new else None)
             if is_all or before != after or pair.is_of_other_kind():
                 yield pair
+        else:
+            pass_same(old, new)
         before, after = next_old, next_new
 
 

@@ -3,18 +3,20 @@ entries; with --owner and --names, those that somebody owns, or that an entry of
 what one user may do, by folder to a depth."""
 from __future__ import annotations
 
+import itertools
+import operator
 import re
 from collections import Counter
-from typing import Dict, Iterable, Iterator, List, Set, Tuple
+from typing import Dict, Iterator, List, Optional, Set, Tuple
 
-from ...base.folders import folder_of
-from ...base.names import highest, json_text, path_order, path_word, read_path, sorting_key
+from ...base.names import highest, json_text, parent_of, path_word, read_path, sorting_key, way_to
 from ...base.tables import Column, Table
 from ...model import choice, sources
 from ...model.entries import OWNER_KEY, USER, ReadRecord, read_record
-from ...model.records import list_slices, path_of, paths_of, split_record
+from ...model.everybody import directories_of, paths_of
+from ...model.records import list_slices, path_of, paths_in, split_record
 from ...model.rights import GRANTED, REQUESTS
-from ...program.protocol import BELOW, CAN, DEFAULT_ENTRY, FILE_HEAD, LIST_EFFECTIVE, MAY
+from ...program.protocol import BELOW, CAN, DEFAULT_ENTRY, LIST_EFFECTIVE, MAY
 from ...program.session import LINES_ROOM, parts_of
 from .asking import WORDS, Asker, NamedUser, Reasons, Right, WhoAnswer, plain_entry
 
@@ -101,47 +103,34 @@ def files_of_user(asker: Asker, question: str, user: NamedUser, folders: List[by
 # --- what one user may do
 
 
-def names_in(dump: bytes) -> List[bytes]:
-    """The names of its files. Where each `file:` is as facl-snapshot writes it, no other line is looked at."""
-    parts = (b"\n" + dump).split(b"\n" + FILE_HEAD)
-    if dump.count(b"file:") != len(parts) - 1:
-        return list(sources.names_of(dump))
-    return [part.partition(b"\n")[0] for part in parts[1:]]
-
-
 class Folders:
-    """The folders from some tops down to a depth, with the numbers of files at or below each. A folder has a name with a slash
-    at its end, a file below it, or is one of those that have default entries."""
+    """The folders from some tops down to a depth, with the numbers of files at or below each. A folder has a file below it, or
+    is one of the directories."""
 
-    def __init__(self, tops: List[bytes], depth: int, dump: bytes, directories: Set[bytes]) -> None:
-        self.tops, self.depth = set(tops), depth
-        self.paths: List[bytes] = []
-        names = names_in(dump)
-        recorded = list(map(path_of, names))
-        inside = {level for folder in files_by_folder(recorded) for level in self.levels(folder)}
-        slashes = {path for path, name in zip(recorded, names) if name[-1:] == b"/"}
-        known = (inside | slashes | self.tops | directories) & set(recorded)
-        self.paths = sorted((it for it in known if it in self.levels(it)), key=sorting_key)
-        self.files = self.count(recorded)
+    def __init__(self, tops: Set[bytes], depth: int, recorded: List[bytes], directories: Set[bytes]) -> None:
+        self.levels: Dict[bytes, Optional[int]] = {}  # Of all folders: how far below a top each is; None where it is not.
+        inside = files_by_folder(recorded)
+        for folder in (*tops, *inside, *directories):
+            for it in way_to(folder, self.levels):
+                above = self.levels[parent_of(it)] if it else None
+                self.levels[it] = 0 if it in tops else None if above is None else above + 1
+        self.deepest = sorted(self.levels, key=sorting_key, reverse=True)  # The deepest ones first.
+        known = {path for path, level in self.levels.items() if level is not None and level <= depth}.intersection(recorded)
+        self.paths = [path for path in self.deepest[::-1] if path in known]
+        self.files = self.count(recorded, inside)
 
-    def levels(self, path: bytes) -> List[bytes]:
-        """The folders of which a file counts: from a top down to the depth, or to the file."""
-        parts = path_order(path)
-        length = next((it for it in range(len(parts) + 1) if b"/".join(parts[:it]) in self.tops), len(parts) + 1)
-        return [b"/".join(parts[:it]) for it in range(length, min(length + self.depth, len(parts)) + 1)]
-
-    def count(self, paths: List[bytes]) -> Counter[bytes]:
-        """By folder: how many of some files are at or below it."""
-        found: Counter[bytes] = Counter(set(self.paths) & set(paths))  # Each of itself, and of those that it is in.
-        for folder, number in files_by_folder(paths).items():
-            for level in self.levels(folder):
-                found[level] += number
-        return found
+    def count(self, paths: List[bytes], inside: Counter[bytes]) -> Dict[bytes, int]:
+        """By folder: how many of some files are at or below it, by how many are in each."""
+        themselves = set(self.paths).intersection(paths)
+        for folder in filter(None, self.deepest):
+            inside[parent_of(folder)] += inside[folder]
+        return {path: inside[path] + (path in themselves) for path in self.paths}
 
 
-def files_by_folder(paths: Iterable[bytes]) -> Counter[bytes]:
-    """How many of some paths are in each folder; the root is in none."""
-    return Counter(path.rpartition(b"/")[0] for path in paths if path)
+def files_by_folder(paths: List[bytes]) -> Counter[bytes]:
+    """How many of some paths in path order are in each folder; the root is in none."""
+    rest = itertools.islice(paths, int(paths[:1] == [b""]), None)
+    return Counter(map(operator.itemgetter(0), map(bytes.rpartition, rest, itertools.repeat(b"/"))))
 
 
 def greatest(requests: bytes) -> str:
@@ -156,25 +145,29 @@ def ask_here(asker: Asker, word: bytes, paths: List[bytes]) -> Iterator[str]:
         yield from map(greatest, asker.session.ask_accepted(b"\n".join(part)).lines())
 
 
-def with_default_entries(asker: Asker, dump: bytes) -> Set[bytes]:
-    """The paths of the files with default entries, which are folders; none where all folders of a dump have a slash at the end
-    of their names, as facl-snapshot writes them."""
-    if sources.LIVE_ROOT in dump or DEFAULT_LINE.search(dump) is None:
-        return set()
-    tops = sources.find_tops(asker.session, asker.session.folder)
+def directories_in(asker: Asker) -> Set[bytes]:
+    """The files whose names end in a slash, and those with default entries; all folders of a dump by facl-snapshot are among
+    the first ones."""
+    folder, is_live = asker.session.folder, False
+    found: Set[bytes] = set()
+    for piece in sources.dump_pieces(folder):
+        found.update(directories_of(piece))
+        is_live = is_live or sources.LIVE_ROOT in piece
+    if is_live or not any(map(DEFAULT_LINE.search, sources.dump_pieces(folder))):
+        return found
+    tops = sources.find_tops(asker.session, folder)
     listing = list_slices(sources.list_below(asker.session, tops))
-    return {path for path, file in listing.files.items() if DEFAULT_ENTRY in file.body}
+    return found.union(path for path, file in listing.files.items() if DEFAULT_ENTRY in file.body)
 
 
 def of_user(asker: Asker, user: NamedUser, folders: List[bytes]) -> WhoAnswer:
-    dump = folder_of(asker.session.folder).read(sources.DUMP)
-    found = Folders(highest(folders), asker.given.depth, dump, with_default_entries(asker, dump))
+    found = Folders({*highest(folders)}, asker.given.depth, paths_of(asker.world), directories_in(asker))
     word, name = asker.word_of(user.shown), asker.shown(user.shown)
     rows: List[List[bytes]] = []
     objects: List[Dict[str, object]] = []
     with asker.without_unwritable(b"w", folders):
         answers = {right: asker.session.ask_accepted(asker.line(MAY, word, letters)) for right, letters in WORDS.items()}
-        counts = {right: found.count(paths_of(its.read().split(b"\n")[:-1])) for right, its in answers.items()}
+        counts = {right: found.count(paths, files_by_folder(paths)) for right, its in answers.items() for paths in [paths_in(its)]}
         paths = [path for path in found.paths if any(its[path] for its in counts.values())]
         for path, here in zip(paths, ask_here(asker, word, paths)):
             numbers = {right: its[path] for right, its in counts.items()}
