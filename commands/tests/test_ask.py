@@ -280,7 +280,7 @@ class Manual(unittest.TestCase):
     def test_no_macro_is_left(self) -> None:
         for text in [*self.page.sections.values(), *(tool.text for tool in self.page.tools.values())]:
             self.assertIsNone(re.search(r"^\.[A-Z]|\\f|\\-", text, re.MULTILINE), text)
-            self.assertLessEqual(max(map(len, text.split("\n"))), 140)  # The longest line that a command prints there.
+            self.assertLessEqual(max(map(len, text.split("\n"))), 144)  # The longest line that a command prints there.
 
 
 class Completion(unittest.TestCase):

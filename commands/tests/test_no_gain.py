@@ -129,7 +129,7 @@ class Lines(Case):
             with mock.patch.object(opening, "edits_to_try", lambda *_, its=edits: its):
                 found = plan.answer_scripts(GIVEN, snapshot, script)
             self.assertEqual([(it.user, it.edit) for it in found.no_gain], [(b"guest", edit)])
-            end = b"; add for facl-plan: " + edit if edit else b" (other::---)"
+            end = b"; add to the edits: " + edit if edit else b" (other::---)"
             self.assertTrue(found.no_gain[0].text().endswith(end))
 
     def test_deep_directories(self) -> None:
