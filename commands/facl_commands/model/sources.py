@@ -124,7 +124,8 @@ def pieces_of(dump: bytes) -> Iterator[bytes]:
 
 def dump_pieces(folder: bytes) -> Iterator[bytes]:
     """The dump of a snapshot, whole lines at once, which have room in the caches of a processor."""
-    opened, place, rest = folder_of(folder), 0, b""  # Which is open as long as it is known here.
+    opened, place = folder_of(folder), 0  # Which is open as long as it is known here.
+    rest: List[bytes] = []  # The begin of a line.
     text = opened.open_text(DUMP)
     if text.content[0] > MOST:
         raise too_large(text.path, MOST)
@@ -133,11 +134,12 @@ def dump_pieces(folder: bytes) -> Iterator[bytes]:
         while piece:
             end, place = piece.rfind(b"\n") + 1, place + len(piece)
             if end:
-                yield b"".join([rest, memoryview(piece)[:end]])
-            rest = piece[end:] if end else rest + piece
+                yield b"".join([*rest, memoryview(piece)[:end]])
+                rest.clear()
+            rest.append(piece[end:])
             piece = os.pread(text.descriptor, SMALL_PIECE, place)
     text.check()
-    yield rest
+    yield b"".join(rest)
 
 
 def distinct_lines(dump: bytes) -> Set[bytes]:
