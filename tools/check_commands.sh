@@ -5,7 +5,8 @@
 # usage: tools/check_commands.sh [--all | --no-lint] [PROGRAM]      PROGRAM: one that is built (crates/facl_cli/out/facl_cli)
 #        tools/check_commands.sh --lint
 #
-# With --all it also tests facl-ask at a terminal, and over several snapshots, which takes a minute more.
+# With --all it also tests facl-ask at a terminal, and over several snapshots, and runs the tests of commands by verbs, which takes
+# some minutes more.
 # Each of these counts as a failed test where it finds something: shellcheck, mypy and pyflakes3 where they are installed,
 # tools/check.py documents, memory_faults, line_lengths, edits_apply. They come first; with --lint they
 # are all that is done, which takes no program and half a minute, and with --no-lint they are left out.
