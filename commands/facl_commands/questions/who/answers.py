@@ -3,17 +3,21 @@ entries; with --owner and --names, those that somebody owns, or that an entry of
 what one user may do, by folder to a depth."""
 from __future__ import annotations
 
-from typing import Dict, Iterator, List, Tuple
+import itertools
+import operator
+import re
+from collections import Counter
+from typing import Dict, Iterator, List, Optional, Set, Tuple
 
-from ...base.names import highest, json_text, path_word, read_path
+from ...base.names import highest, json_text, parent_of, path_word, read_path, sorting_key, way_to
 from ...base.tables import Column, Table
 from ...model import choice, sources
 from ...model.entries import OWNER_KEY, USER, ReadRecord, read_record
-from ...model.records import path_of, split_record
+from ...model.everybody import directories_of, paths_of
+from ...model.records import list_slices, path_of, paths_in, split_record
 from ...model.rights import GRANTED, REQUESTS
-from ...program.protocol import BELOW, CAN, LIST_EFFECTIVE
+from ...program.protocol import BELOW, CAN, DEFAULT_ENTRY, LIST_EFFECTIVE, MAY
 from ...program.session import LINES_ROOM, parts_of
-from ...program.tools import REACH
 from .asking import WORDS, Asker, NamedUser, Reasons, Right, WhoAnswer, plain_entry
 
 # By user, as the program prints the name: how many, and the path of the first.
@@ -21,6 +25,7 @@ FoundFiles = Dict[bytes, Tuple[int, bytes]]
 HIGHEST_FIRST = ["write", "read", "enter"]
 COLUMNS = [Column("FOLDER"), Column("HERE"), Column("HIGHEST"),
            *(Column(word.upper(), True) for word in WORDS), Column("FILES", True)]
+DEFAULT_LINE = re.compile(rb"^[ \t]*d(?:efault)?:", re.MULTILINE)
 
 
 def ask_below(asker: Asker, right: Right, folders: List[bytes]) -> FoundFiles:
@@ -98,14 +103,34 @@ def files_of_user(asker: Asker, question: str, user: NamedUser, folders: List[by
 # --- what one user may do
 
 
-def count_by_folder(asker: Asker, tool: bytes, letters: bytes, folders: List[bytes]) -> Dict[bytes, int]:
-    """By folder, from some paths down to the depth: how many files at or below it an answer of the program counts, in path order."""
-    found: Dict[bytes, int] = {}
-    for words in sources.operands_of(highest(folders)):
-        for line in asker.session.ask_accepted(b" ".join([tool, b"--", letters, *words])).lines():
-            count, _, name = line.split(b" ", 2)
-            found[path_of(name)] = int(count)
-    return found
+class Folders:
+    """The folders from some tops down to a depth, with the numbers of files at or below each. A folder has a file below it, or
+    is one of the directories."""
+
+    def __init__(self, tops: Set[bytes], depth: int, recorded: List[bytes], directories: Set[bytes]) -> None:
+        self.levels: Dict[bytes, Optional[int]] = {}  # Of all folders: how far below a top each is; None where it is not.
+        inside = files_by_folder(recorded)
+        for folder in (*tops, *inside, *directories):
+            for it in way_to(folder, self.levels):
+                above = self.levels[parent_of(it)] if it else None
+                self.levels[it] = 0 if it in tops else None if above is None else above + 1
+        self.deepest = sorted(self.levels, key=sorting_key, reverse=True)  # The deepest ones first.
+        known = {path for path, level in self.levels.items() if level is not None and level <= depth}.intersection(recorded)
+        self.paths = [path for path in self.deepest[::-1] if path in known]
+        self.files = self.count(recorded, inside)
+
+    def count(self, paths: List[bytes], inside: Counter[bytes]) -> Dict[bytes, int]:
+        """By folder: how many of some files are at or below it, by how many are in each."""
+        themselves = set(self.paths).intersection(paths)
+        for folder in filter(None, self.deepest):
+            inside[parent_of(folder)] += inside[folder]
+        return {path: inside[path] + (path in themselves) for path in self.paths}
+
+
+def files_by_folder(paths: List[bytes]) -> Counter[bytes]:
+    """How many of some paths in path order are in each folder; the root is in none."""
+    rest = itertools.islice(paths, int(paths[:1] == [b""]), None)
+    return Counter(map(operator.itemgetter(0), map(bytes.rpartition, rest, itertools.repeat(b"/"))))
 
 
 def greatest(requests: bytes) -> str:
@@ -120,20 +145,34 @@ def ask_here(asker: Asker, word: bytes, paths: List[bytes]) -> Iterator[str]:
         yield from map(greatest, asker.session.ask_accepted(b"\n".join(part)).lines())
 
 
+def directories_in(asker: Asker) -> Set[bytes]:
+    """The files whose names end in a slash, and those with default entries; all folders of a dump by facl-snapshot are among
+    the first ones."""
+    folder, is_live = asker.session.folder, False
+    found: Set[bytes] = set()
+    for piece in sources.dump_pieces(folder):
+        found.update(directories_of(piece))
+        is_live = is_live or sources.LIVE_ROOT in piece
+    if is_live or not any(map(DEFAULT_LINE.search, sources.dump_pieces(folder))):
+        return found
+    tops = sources.find_tops(asker.session, folder)
+    listing = list_slices(sources.list_below(asker.session, tops))
+    return found.union(path for path, file in listing.files.items() if DEFAULT_ENTRY in file.body)
+
+
 def of_user(asker: Asker, user: NamedUser, folders: List[bytes]) -> WhoAnswer:
+    found = Folders({*highest(folders)}, asker.given.depth, paths_of(asker.world), directories_in(asker))
     word, name = asker.word_of(user.shown), asker.shown(user.shown)
-    tool = BELOW + b" --user %s --depth %d" % (word, asker.given.depth)
-    along = b"" if asker.given.file_alone else b" " + REACH
     rows: List[List[bytes]] = []
     objects: List[Dict[str, object]] = []
     with asker.without_unwritable(b"w", folders):
-        files = count_by_folder(asker, tool, b"0", folders)  # Nothing is granted on all files.
-        counts = {right: count_by_folder(asker, tool + along, letters, folders) for right, letters in WORDS.items()}
-        paths = [path for path in files if any(path in its for its in counts.values())]
+        answers = {right: asker.session.ask_accepted(asker.line(MAY, word, letters)) for right, letters in WORDS.items()}
+        counts = {right: found.count(paths, files_by_folder(paths)) for right, its in answers.items() for paths in [paths_in(its)]}
+        paths = [path for path in found.paths if any(its[path] for its in counts.values())]
         for path, here in zip(paths, ask_here(asker, word, paths)):
-            numbers = {right: its.get(path, 0) for right, its in counts.items()}
+            numbers = {right: its[path] for right, its in counts.items()}
             most = next(it for it in HIGHEST_FIRST if numbers[it])  # On a file at or below the folder.
-            numbers["count"] = files[path]
+            numbers["count"] = found.files[path]
             rows.append([asker.name_of(path), here.encode(), most.encode(), *(b"%d" % it for it in numbers.values())])
             objects.append({"path": json_text(rows[-1][0]), "here": here, "highest": most, **numbers})
     return WhoAnswer(
