@@ -26,7 +26,7 @@ from facl_commands.base import acl_bytes, beside, names, workers  # noqa: E402
 from facl_commands.base.accounts import is_person  # noqa: E402
 from facl_commands.base.names import path_order  # noqa: E402
 from facl_commands.page import columns as page_columns  # noqa: E402
-from facl_commands.snapshot import in_order, list_texts, runs, scope, walking  # noqa: E402
+from facl_commands.snapshot import in_order, list_texts, rests, runs, scope, walking  # noqa: E402
 
 FILES = ["dump", "group", "inodes", "links", "marks", "meta", "passwd"]
 
@@ -177,7 +177,7 @@ ln -sf kept 'l\nf'; rm folder gone; mkdir folder; mv d1 d && mv d2 d1 && mv d d2
     def test_another_process_goes_on_in_the_same_directory_alone(self) -> None:
         """Where another one has its name, nothing in it is looked at."""
         top = os.path.realpath(os.fsencode(self.path("tree")))
-        rest = walking.Rest(top + b"/a/", os.stat(top).st_dev, os.stat(top + b"/a").st_ino, b"rw", True, b"1\x002", 2)
+        rest = rests.Rest(top + b"/a/", os.stat(top).st_dev, os.stat(top + b"/a").st_ino, b"rw", True, b"1\x002", 2)
         walker = walking.Walker(scope.Scope([top], [], False, (0, 0)))
         self.assertEqual([walker.walk([rest]).run.name(place) for place in (0, 1)], [top + b"/a/1", top + b"/a/2"])
         found = walker.walk([rest._replace(inode=rest.inode + 1)])
@@ -242,7 +242,7 @@ ln -sf kept 'l\nf'; rm folder gone; mkdir folder; mv d1 d && mv d2 d1 && mv d d2
         """Each name once, in order."""
         names = [b"%d" % number for number in range(3000)]
         for weight in (1, 30, 5000):
-            whole = walking.START_OF_ALL._replace(names=b"\0".join(names), number=len(names), weight=weight)
+            whole = rests.START_OF_ALL._replace(names=b"\0".join(names), number=len(names), weight=weight)
             found: List[bytes] = []
             while whole.number:
                 piece, whole = whole.cut(in_order.cut_size(whole, 4))

@@ -10,7 +10,8 @@ from ..base import workers
 from ..base.live import PLACES
 from ..base.workers import Helper, receive, send
 from .runs import LeftOut, Run
-from .walking import MANY, START_OF_ALL, Rest, Walked, Walker
+from .rests import START_OF_ALL, Rest
+from .walking import MANY, Walked, Walker
 
 MOST_WAITING = 32  # Errands whose finds wait for what is before them.
 

@@ -14,7 +14,6 @@ from operator import attrgetter
 from typing import Iterator, List, NamedTuple, Optional, Tuple
 
 from ..base import acl_bytes, linux, live
-from ..base.beside import PLAIN
 from ..base.linux import ATTRIBUTES, STATX_BTIME
 from ..base.live import PLACES, NotFound, Opener
 from ..base.messages import Failure, reason
@@ -22,6 +21,7 @@ from . import scope as scopes
 from .list_texts import NoList, shown_name
 from .long_names import EXCHANGED, START, LongNames
 from .marking import KnownMount, KnownMounts, attributes_of, marked, other_lists
+from .rests import Rest
 from .runs import EXCLUDED, FILE, IS_FOLDER, LINK, LONG, SEVERAL, UNREAD, Draft, LeftOut, Row, Run
 from .scope import LONGEST_NAME, MOST_BYTES, Scope, of_folder
 
@@ -34,31 +34,6 @@ LONGEST_PART = 255  # Bytes of a name in a directory.
 PLAIN_FILE = stat.S_IFREG >> 8  # In the last byte of a label.
 ACCESS, DEFAULT = acl_bytes.ACCESS.decode(), acl_bytes.DEFAULT.decode()
 NAME = attrgetter("name")
-
-
-class Rest(NamedTuple):
-    """Names of a directory that are still to be looked at."""
-
-    path: bytes  # Of the directory, with a slash at its end; empty where the name is that of the root.
-    device: int
-    inode: int
-    mount: bytes  # How it is mounted.
-    is_inside: bool  # Whether all in it is recorded, or only what leads to a FOLDER.
-    names: bytes  # With a NUL byte between each two.
-    number: int  # Of the names.
-    weight: int = 1  # How many files were below each name so far.
-    start: int = 0  # Where the names begin that no process has.
-
-    def cut(self, number: int) -> Tuple[Rest, Rest]:
-        """The first names, and the others, which are in the same text."""
-        end = self.start
-        for _ in range(number):
-            end = self.names.find(b"\0", end) + 1 or len(self.names) + 1
-        return (self._replace(names=self.names[self.start : end - 1], number=number, start=0),
-                self._replace(number=self.number - number, start=end))
-
-
-START_OF_ALL = Rest(b"", 0, 0, PLAIN, False, b"/", 1)
 
 
 class Walked(NamedTuple):

@@ -7,33 +7,31 @@ been done by some of them: then all answer the script again, without it.
 from __future__ import annotations
 
 import argparse
-import heapq
 import itertools
 import os
 import re
-from typing import Dict, Iterable, Iterator, List, NamedTuple, Optional, Set, Tuple
+from typing import Dict, Iterable, Iterator, List, NamedTuple, Set
 
 from ...base.folders import EXCHANGED
 from ...base.messages import Command, Failure
-from ...base.names import path_order, read_path, sorting_key, write_name
+from ...base.names import path_order, read_path, write_name
 from ...model import overview
 from ...model.everybody import ElseAnswers, beside_of, everybody_in
-from ...model.records import name_of, path_of
 from ...model.superuser import Superusers
 from ...program.answering import below_heading, lines_for_terminal, write_messages
-from ...program.protocol import ANSWERED, FILE_HEAD, PROGRAM, REFUSED, is_refused, lacking_file, lacks_file, message_of
+from ...program.protocol import ANSWERED, PROGRAM, REFUSED, is_refused, lacking_file, lacks_file, message_of
 from ...program.scripts import Script, Unit, read_text
-from ...program.session import OutputSlice, lines_of
+from ...program.session import lines_of
 from ...program.tools import (
-    ALL, BY_FOLDER, CHANGES_OF_PEOPLE, COUNTING, DEEP, EDITS, FIRST_FILES, LOOK, OF_RECORDS, TEST, options_that, path_in, split,
+    BY_FOLDER, CHANGES_OF_PEOPLE, COUNTING, DEEP, EDITS, FIRST_FILES, LOOK, OF_RECORDS, TEST, options_that, split,
 )
 from . import SECONDS, counts
 from .agreement import check_agreement, files_of_several
+from .merging import items_of, merged
 from .runs import HERE, HOST, NOT_READABLE, Answered, Part, Server, part_options, run_all
 
 LIKE_HOST = re.compile(rb"[A-Za-z0-9@._-]+:|-[^/]*:")  # What somebody may have meant for a host.
 SEVERAL = b"its files lie in several snapshots; name those of one in a line of its own"
-Item = Tuple[bytes, int, bytes]  # A path, the number of its snapshot, and what is printed for it.
 
 
 class Joined(NamedTuple):
@@ -42,33 +40,6 @@ class Joined(NamedTuple):
     output: Iterator[bytes]
     messages: List[bytes]
     is_dropped: bool = False  # Whether the script is answered again without it.
-
-
-def path_key(name: bytes) -> bytes:
-    """What printed names of files are sorted by: the order of their paths."""
-    return sorting_key(path_of(name))
-
-
-def items_of(unit: Unit, place: int, output: OutputSlice) -> Optional[Iterator[Item]]:
-    """What a line printed, file by file; None where it names no files."""
-    tool = unit.form()
-    if tool in OF_RECORDS:
-        start = output._replace(end=min(output.end, output.start + len(FILE_HEAD))).read()
-        if start in (b"", FILE_HEAD):
-            return ((path_key(name_of(it)), place, it + b"\n\n") for it in output.records())
-    elif tool in ALL and "PATH" in ALL[tool].prints:
-        return ((path_key(path_in(tool, line)), place, line + b"\n") for line in output.lines())
-    return None
-
-
-def merged(streams: List[Iterator[Item]]) -> Iterator[bytes]:
-    """The files in path order; of one that several snapshots have, what the first of them printed."""
-    last: Optional[Tuple[bytes, int]] = None
-    for key, place, text in heapq.merge(*streams, key=lambda item: item[:2]):
-        if last is not None and last[0] == key and last[1] != place:
-            continue
-        last = (key, place)
-        yield text
 
 
 def refused(unit: Unit, text: bytes, is_dropped: bool = False) -> Joined:
