@@ -5,7 +5,7 @@ import argparse
 import grp
 import os
 import re
-from typing import Dict, List, Set
+from typing import Dict, List, Optional, Set
 
 from ..base.messages import Command, Failure, counted, parser_of
 from ..base.names import live_path, number_of, write_user
@@ -235,6 +235,13 @@ def body(command: Command, words: List[str]) -> int:
         return plan_over(command, given, source)
 
 
+def write_plan(command: Command, target: plan_folder.Target, files: Dict[bytes, bytes], group: Optional[int]) -> None:
+    """Writes the files of a plan, and says where an earlier one is kept."""
+    kept = plan_folder.write_plan(target, files, group)
+    if kept is not None:
+        command.say(b"kept the earlier plan as " + kept)
+
+
 def plan_over(command: Command, given: argparse.Namespace, source: sources.Source) -> int:
     snapshot = read_snapshot(source.folder, needs_links=False)
     name = beside(source.shown) if given.plan is None else os.fsencode(given.plan)
@@ -262,9 +269,7 @@ def plan_over(command: Command, given: argparse.Namespace, source: sources.Sourc
     if written is not None:
         check_inodes(snapshot, changes)
         files = plan_files(find_program(given), snapshot, scripts, outcome, changes, steps)
-        kept = plan_folder.write_plan(target, files, group)
-        if kept is not None:
-            command.say(b"kept the earlier plan as " + kept)
+        write_plan(command, target, files, group)
     if given.json:
         for part in json_report(given, source, outcome, changes, commands, written, stuck):
             command.write(part)
