@@ -18,7 +18,7 @@ from snapshot_stand_ins import DIRECTORY, command_with, names_of
 
 sys.path.insert(0, COMMANDS)
 
-from facl_commands.ask.parts import agreement, counts, join, worker  # noqa: E402
+from facl_commands.ask.parts import agreement, counts, join, merging, worker  # noqa: E402
 from facl_commands.ask.parts import hosts as servers  # noqa: E402
 from facl_commands.ask.parts.runs import HERE as THIS  # noqa: E402
 from facl_commands.ask.parts.runs import Part, Server  # noqa: E402
@@ -138,8 +138,8 @@ class Joined(unittest.TestCase):
                 file.write(output)
                 slices.append(OutputSlice(file, start, file.tell()))
             file.flush()
-            streams = [join.items_of(unit, place, output) for place, output in enumerate(slices)]
-            return b"".join(join.merged([it for it in streams if it is not None]))
+            streams = [merging.items_of(unit, place, output) for place, output in enumerate(slices)]
+            return b"".join(merging.merged([it for it in streams if it is not None]))
 
     def test_changes_are_in_path_order(self) -> None:
         self.assertEqual(self.joined(b"changes", b"ben gains r-- srv\nmara gains -w-,rw- srv/b\nmara loses --x srv/b\nguest gains r-- srv/b/z\n",
