@@ -1,5 +1,5 @@
 #!/bin/sh
-# Installs `facl` with its verbs, the programs that it asks, and their manual pages.
+# Installs `facl` with its verbs, the programs that it asks, and their manual pages. On the path are facl and facl_linux alone.
 #
 # usage: tools/install.sh [--program FILE [--linux-program FILE]] [--version VERSION] [--origin TEXT] [PREFIX]
 #                                                                          into bin, libexec/facl and share of PREFIX
@@ -46,8 +46,8 @@ case $version in *[!0-9a-z.]*) fail "$version: is no version" ;; esac
 prefix=${1:-/usr/local}
 case $prefix in /*) ;; *) fail "$prefix: PREFIX has to begin with a slash" ;; esac
 to=${DESTDIR:-}${prefix%/}
-# facl_commands is beside them.
-commands='facl-snapshot facl-ask facl-plan facl-apply facl-report facl-who facl-diff facl-audit facl-check facl-daily'
+# What verbs, the timer and other machines run, below libexec; facl_commands is beside them.
+commands='facl-verbs facl-by-hand facl-snapshot facl-ask facl-plan facl-apply facl-report facl-who facl-diff facl-audit facl-check facl-daily'
 completions=share/bash-completion/completions
 case $prefix in # where zsh of the system, or of the administrator, looks
 /usr) zsh=share/zsh/vendor-completions ;;
@@ -65,12 +65,11 @@ pages() {
 }
 
 uninstall() {
-    for name in facl facl_linux $commands; do rm -f -- "$to/bin/$name"; done # links, and of an older facl programs
-    for page in man1/facl_linux.1 man1/facl-commands.1 man1/facl-report.1 man5/facl-script.5 $(pages); do
+    rm -f -- "$to/bin/facl" "$to/bin/facl_linux"
+    for page in man1/facl_linux.1 man1/facl-commands.1 man5/facl-script.5 $(pages); do
         rm -f -- "$to/share/man/$page"
     done
-    for name in facl $commands; do rm -f -- "$to/$completions/$name"; done
-    rm -f -- "$to/$zsh/_facl" "$to/$fish/facl.fish"
+    rm -f -- "$to/$completions/facl" "$to/$zsh/_facl" "$to/$fish/facl.fish"
     rm -rf -- "$to/libexec/facl" "$to/share/facl"
 }
 
@@ -95,12 +94,6 @@ install_modules() {
     done
 }
 
-# name_page NAME PAGE: a page that is another one by its own name
-name_page() {
-    echo ".so $2" >"$to/share/man/man1/$1.1"
-    chmod 644 "$to/share/man/man1/$1.1"
-}
-
 # write_origin: what `facl --version` says of the programs
 write_origin() {
     [ -n "$origin" ] || origin='The programs were given as they are: nobody said whether they were proved.'
@@ -112,19 +105,18 @@ write_origin() {
 install_completion() {
     install -d -m 755 -- "$to/$zsh" "$to/$fish"
     completion_of() { $python -I "$top/commands/facl-verbs" complete "$1"; }
-    { cat "$top/commands/completion/facl.bash" && completion_of bash; } >"$to/libexec/facl/facl.bash"
+    { cat "$top/commands/completion/facl.bash" && completion_of bash; } >"$to/$completions/facl"
     completion_of zsh >"$to/$zsh/_facl"
     completion_of fish >"$to/$fish/facl.fish"
-    chmod 644 -- "$to/libexec/facl/facl.bash" "$to/$zsh/_facl" "$to/$fish/facl.fish"
-    for name in facl $commands; do ln -sf -- ../../../libexec/facl/facl.bash "$to/$completions/$name"; done
+    chmod 644 -- "$to/$completions/facl" "$to/$zsh/_facl" "$to/$fish/facl.fish"
 }
 
 install_files() {
     rm -rf -- "$to/libexec/facl"
     install -d -m 755 -- "$to/libexec/facl"
     install -m 755 -- "$program" "$to/libexec/facl/facl-program"
-    for name in facl facl-verbs facl-by-hand $commands; do install -m 755 -- "$top/commands/$name" "$to/libexec/facl"; done
-    for name in facl $commands; do ln -sf -- "../libexec/facl/$name" "$to/bin/$name"; done
+    for name in facl $commands; do install -m 755 -- "$top/commands/$name" "$to/libexec/facl"; done
+    ln -sf -- ../libexec/facl/facl "$to/bin/facl"
     [ -z "$linux_program" ] || {
         install -m 755 -- "$linux_program" "$to/libexec/facl/facl_linux"
         ln -sf -- ../libexec/facl/facl_linux "$to/bin/facl_linux"
@@ -136,8 +128,10 @@ install_files() {
     [ -n "${DESTDIR:-}" ] || ! command -v $python >/dev/null || $python -m compileall -q "$to/libexec/facl/facl_commands"
     "$top/tools/pages.py" --version "$version" "$to/share/man"
     chmod 644 -- "$to"/share/man/man[157]/facl*
-    [ -z "$linux_program" ] || name_page facl_linux man5/facl-script.5
-    name_page facl-report man1/facl-commands.1
+    [ -z "$linux_program" ] || {
+        echo .so man5/facl-script.5 >"$to/share/man/man1/facl_linux.1"
+        chmod 644 "$to/share/man/man1/facl_linux.1"
+    }
     install_completion
     install -d -m 755 -- "$to/share/facl/schemas"
     install -m 644 -- "$top"/commands/schemas/*.json "$to/share/facl/schemas"
@@ -156,7 +150,7 @@ say_what_is_missing() {
     ! command -v $python >/dev/null || $python -c 'import sys; sys.exit(sys.version_info < (3, 9))' ||
         warn "python3 is older than 3.9, which the commands need"
     ! command -v $python >/dev/null || $python -c 'import prompt_toolkit' 2>/dev/null ||
-        warn "without the package python3-prompt-toolkit the prompt of facl-ask completes no words"
+        warn "without the package python3-prompt-toolkit the prompt of facl ask completes no words"
     case :$PATH: in *:"$prefix/bin":*) ;; *) warn "$prefix/bin is not on the path" ;; esac
 }
 
@@ -167,5 +161,5 @@ else
     check_parts
     install_files
     [ -n "${DESTDIR:-}" ] || say_what_is_missing
-    echo "$script_name: facl,${linux_program:+ facl_linux,} $(echo "$commands" | sed 's/ /, /g') are in $prefix/bin; man facl"
+    echo "$script_name: installed facl${linux_program:+ and facl_linux} in $prefix/bin; man facl"
 fi

@@ -1,11 +1,6 @@
-# Completes the words of facl and of the commands in bash: verbs, options, findings, users, groups, snapshots, and names of files.
+# Completes the words of facl in bash: verbs, options, findings, users, groups, snapshots, and names of files.
 # Names of users, groups and files are data of others: nothing here evaluates one, and each is quoted on the command line.
 # shellcheck shell=bash disable=SC2154  # the tables of verbs, which `facl complete bash` prints, come below this file
-
-# _facl_help COMMAND PATTERN: what --help prints of a pattern; of the command on the path, not of a file that is being typed
-_facl_help() {
-    command "${1##*/}" --help 2>/dev/null </dev/null | grep -o -E -e "$2"
-}
 
 # _facl_line: sets `verb`, the verb that is on the line before the word that is typed, and `place`, how many words are after it
 # that are no options and no values of any
@@ -27,7 +22,8 @@ _facl_line() {
     done
 }
 
-# _facl_kind COMMAND KIND WORD: the words of a kind, of the snapshot that is meant; users and groups of the system where there is none
+# _facl_kind COMMAND KIND WORD: the words of a kind, of the snapshot that is meant; users and groups of the system where there is none.
+# The command on the path says them, not a file that is being typed.
 _facl_kind() {
     case $2 in
     file | word) ;;
@@ -38,8 +34,8 @@ _facl_kind() {
     esac
 }
 
-# _facl_of_verb COMMAND WORD BEFORE: the same as _facl_words, of a line of facl
-_facl_of_verb() {
+# _facl_words COMMAND WORD BEFORE: what the word after another one can be; nothing where it is a name of a file
+_facl_words() {
     local verb place kinds=() kind='' words
     _facl_line
     read -ra kinds <<<"${verb:+${_facl_kinds[$verb]-}}"
@@ -60,21 +56,6 @@ _facl_of_verb() {
     :) ;;
     :*) _facl_kind "$1" "${words#:}" "$2" ;;
     *) tr ' ' '\n' <<<"$words" ;;
-    esac
-}
-
-# _facl_words COMMAND WORD BEFORE: what the word after another one can be; nothing where it is a name of a file
-_facl_words() {
-    if [ "${1##*/}" = facl ]; then
-        _facl_of_verb "$@"
-        return
-    fi
-    case $3 in
-    --list | --edits) _facl_help "$1" '^    (high|middle|low) +[a-z-]+' | sed 's/.* //' ;;
-    --fail-on) printf '%s\n' high middle low none ;;
-    --user | --owner | --names) compgen -u ;;
-    --readers) compgen -g ;;
-    *) case $2 in -*) _facl_help "$1" '(^|[[ ])--[a-z][a-z0-9-]+' | tr -d '[ ' ;; esac ;;
     esac
 }
 
@@ -130,5 +111,3 @@ _facl() {
     done
     [[ ${#COMPREPLY[@]} -ne 1 || ${COMPREPLY[0]} != */ ]] || compopt -o nospace
 }
-
-complete -F _facl facl-snapshot facl-ask facl-who facl-diff facl-audit facl-check facl-daily facl-report facl-plan facl-apply

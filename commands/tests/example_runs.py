@@ -39,7 +39,7 @@ COMMANDS_APART: Dict[str, str] = {
     "man": "by hand",
 }
 LIVE = ("facl-snapshot", "facl-apply", "getfacl", "setfacl", "ls")
-OF_SEVERAL = re.compile(r"facl-ask .*--(each|hosts)\b")
+OF_SEVERAL = re.compile(r"facl[ -]ask .*--(each|hosts)\b")
 PROGRAM = re.compile(r"(?:^|[|;&] *)([\w./-]+)")
 MADE = re.compile(r"(?:([\w.-]+) /|>([\w.-]+))")  # What facl-snapshot or a shell makes.
 REAL_TREE = """\
@@ -64,13 +64,13 @@ shift
 [ "$1" != -- ] || shift
 PATH=$HOME/server:$PATH exec sh -c "$*"
 """,
-    "server/facl-ask": """\
+    "server/facl": """\
 #!/bin/sh
 for word; do
     shift
     set -- "$@" "${word#/var/lib/facl/}"
 done
-exec "$HOME/commands/facl-ask" "$@"
+exec "$HOME/commands/facl" "$@"
 """,
 }
 

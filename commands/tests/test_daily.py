@@ -7,6 +7,7 @@ import re
 import shutil
 import signal
 import subprocess
+import sys
 import tempfile
 import time
 import unittest
@@ -14,6 +15,11 @@ from typing import List, Optional
 
 from common import COMMANDS, Case, Done, restore_signals
 from snapshot_stand_ins import all_commands_with
+
+sys.path.insert(0, COMMANDS)
+
+from facl_commands.verbs.options import BY_FIELD  # noqa: E402
+from facl_commands.verbs.table import BY_VERB  # noqa: E402
 
 NEEDED = ("getfacl", "setfacl")
 LOCK = "lock.of-facl-daily"
@@ -28,9 +34,9 @@ asking.all_groups = lambda: [asking.group_of(grp.struct_group(it)) for it in gro
 """
 STUBS = {
     "sendmail": "#!/bin/sh\n[ ! -e \"$STUBS/broken\" ] || exit 75\ncat >\"$STUBS/mail\"\n",
+    # On the path, and not run.
+    **dict.fromkeys(("facl-snapshot", "facl-diff", "facl-audit", "facl-check"), "#!/bin/sh\nexit 9\n"),
 }
-# In the place of facl-diff, where that is not in the commands.
-DIFF = "#!/bin/sh\ncmp -s \"$1/dump\" \"$2/dump\" || { echo differs; exit 1; }\n"
 MAIL = """\
 To: root@srva
 Subject: facl on HOST: something to look at
@@ -90,7 +96,7 @@ class Daily(Case):
         os.chmod(self.tree, 0o755)
         self.make("file", 0o644)
         os.mkdir(self.path("stubs"), 0o755)
-        for name, text in [*STUBS.items(), *([] if os.path.exists(os.path.join(COMMANDS, "facl-diff")) else [("facl-diff", DIFF)])]:
+        for name, text in STUBS.items():
             self.write("stubs/" + name, text.encode())
             os.chmod(self.path("stubs/" + name), 0o755)
         all_commands_with(PEOPLE, self.path("commands"))
@@ -224,17 +230,16 @@ class Units(Daily):
         return found.split()
 
     def test_their_words(self) -> None:
-        text = self.daily("--help").out.decode()
+        options = {name for field in BY_VERB["daily"].options for name in BY_FIELD[field].names}
         with open(os.path.join(COMMANDS, "..", "docs", "facl-commands.1"), encoding="utf-8") as file:
             page = re.findall(r'^FACL_DAILY="(.*)"$', file.read().replace("\\-", "-"), re.MULTILINE)[0].split()
         for words in (self.words_in("facl-daily.default", '^FACL_DAILY="(.*)"$'), page,
-                      self.words_in("facl-daily.cron", "root facl-daily (.*)")):
-            options = [word for word in words if word.startswith("--")]
-            self.assertEqual([], [word for word in options if "\n  %s " % word not in text], words)
+                      self.words_in("facl-daily.cron", "root facl daily (.*)")):
+            self.assertLessEqual({word for word in words if word.startswith("--")}, options)
             self.assertEqual(words[-1], "/srv")
 
     def test_the_service(self) -> None:
-        self.assertEqual(self.words_in("facl-daily.service", "^ExecStart=(.*)"), ["/usr/bin/facl-daily", "$FACL_DAILY"])
+        self.assertEqual(self.words_in("facl-daily.service", "^ExecStart=(.*)"), ["/usr/bin/facl", "daily", "$FACL_DAILY"])
         self.assertEqual(self.words_in("facl-daily.timer", "^OnCalendar=(.*)"), ["*-*-*", "03:10:00"])
 
 
@@ -275,7 +280,7 @@ class Faults(Daily):
     def test_no_snapshot(self) -> None:
         done = self.daily(folders=[self.path("nix")])
         self.assertEqual((done.status, self.kept()), (2, []))
-        self.assertIn(b"== facl-snapshot: status 2\n", done.out)
+        self.assertIn(b"== facl snapshot: status 2\n", done.out)
 
     def test_a_rule_that_cannot_be_used(self) -> None:
         self.write("rules", b"never nobody read /\n")

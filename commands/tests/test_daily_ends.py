@@ -225,7 +225,7 @@ class Unsaid(Stubbed):
         self.stub("in-diff", "echo facl-diff: it is broken >&2; exit 2\n")
         self.assertEqual(self.daily(), 2)
         text = self.take("stubs/mails")
-        self.assertIn(b": facl-diff: it is broken\n", text)
+        self.assertIn(b": facl diff: it is broken\n", text)
         self.assertIn(b"the new snapshot is not kept, since what changed cannot be said", text)
         os.unlink(self.path("stubs/in-diff"))
         self.is_said()
@@ -233,7 +233,7 @@ class Unsaid(Stubbed):
     def test_no_snapshot(self) -> None:
         self.stub("in-snapshot", "echo facl-snapshot: /srv: has more than 1,048,576 files >&2; exit 2\n")
         self.assertEqual(self.daily(), 2)
-        self.assertEqual(self.subjects(), [b"no snapshot; facl-snapshot: /srv: has more than 1,048,576 files"])
+        self.assertEqual(self.subjects(), [b"no snapshot; facl snapshot: /srv: has more than 1,048,576 files"])
         os.unlink(self.path("stubs/in-snapshot"))
         self.is_said()
 

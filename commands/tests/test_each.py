@@ -270,7 +270,7 @@ class Servers(Case):
         self.write("bin/ssh", b"#!/bin/sh\nwhile :; do case $1 in srv[ab]) break;; down) echo no route >&2; exit 255;; esac; shift; done\n"
                    b"shift\n[ \"$1\" != -- ] || shift\nexec sh -c \"$*\"\n")
         os.chmod(self.path("bin/ssh"), stat.S_IRWXU)
-        os.symlink(os.path.join(COMMANDS, "facl-ask"), self.path("bin/facl-ask"))
+        os.symlink(os.path.join(COMMANDS, "facl"), self.path("bin/facl"))
         environment = {"PATH": self.path("bin") + ":" + os.environ["PATH"]}
         script = b"who r srv/share/one\nfrob\ngpasswd -d ben audit\nwho r srv/share/two"
         words = ["--hosts", "srva:" + self.path("before"), "localhost:before", "srvb:" + self.path("other")]
@@ -333,7 +333,7 @@ class Hosts(Case):
         environment = {"PATH": self.path("bin") + ":" + os.environ["PATH"], "POSIXLY_CORRECT": "1", "PYTHONPATH": "x"}
         done = self.run_command("facl-ask", ["--each", "host:it's; a"], b"", environment)
         self.assertEqual((done.status, done.out), (2, b""))
-        self.assertRegex(done.messages, b"^facl-ask: host: C -- host facl-ask --part --everybody=facl-everybody-else-[0-9a-f]+:[0-9]+ "
+        self.assertRegex(done.messages, b"^facl-ask: host: C -- host facl answer-part --everybody=facl-everybody-else-[0-9a-f]+:[0-9]+ "
                          b"-- 'it'\"'\"'s; a'\n$")
         self.expect(self.run_command("facl-ask", ["--each", "host:x"], b"", {"PATH": self.path("none")}), 2, b"",
                     b"facl-ask: ssh: No such file or directory\n")
@@ -512,7 +512,7 @@ class Each(Case):
         self.write("bin/ssh", b"#!/bin/sh\nwhile [ \"$1\" != machine ]; do shift; done\nshift\n[ \"$1\" != -- ] || shift\necho machine >>'%s'\nexec sh -c \"$*\"\n"
                    % os.fsencode(self.path("called")))
         os.chmod(self.path("bin/ssh"), stat.S_IRWXU)
-        os.symlink(os.path.join(COMMANDS, "facl-ask"), self.path("bin/facl-ask"))
+        os.symlink(os.path.join(COMMANDS, "facl"), self.path("bin/facl"))
         environment = {"PATH": self.path("bin") + ":" + os.environ["PATH"]}
         words = ["--each", "--with-root", "1", "machine:" + self.path("2"), "3"]
         done = self.run_command("facl-ask", words, b"index\n", environment)

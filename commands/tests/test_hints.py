@@ -260,7 +260,7 @@ class Explained(Asked):
         self.expect(b"adduser nell", b"A user is added by useradd, with an id and a primary group:", b"  in the script: useradd -u UID -g GROUP nell")
         self.expect(b"userdel -r ines", b"userdel has no -r here: userdel USER", b"  in the script: userdel ines")
         self.expect(b"getfacl -pd srv", b"getfacl has no -p, -d here: getfacl [-aceEsRn] FILE..")
-        self.expect(b"who 'a;b' | wc", b"No shell reads the line, so |, < and > are words like any other. What facl-ask prints goes to a command "
+        self.expect(b"who 'a;b' | wc", b"No shell reads the line, so |, < and > are words like any other. What facl ask prints goes to a command "
                                        b"or a file: facl ask SCRIPT | wc -l", b"  in the script: who 'a;b'")
         self.expect(b"frob")
         self.expect(b"load x\n.")

@@ -27,6 +27,7 @@ done
 exit 255
 """
 UNREADABLE = b"an answer cannot be read; facl may be of another version there"
+OTHER_VERSION = b"facl there is of another version, which does not take what this one asks"
 CUT = b"a snapshot did not answer to the end"
 Fields = Dict[str, Any]
 
@@ -87,8 +88,11 @@ PROGRAMS: Dict[str, Tuple[bytes, Optional[bytes]]] = {
     "endless": (b"exec tr '\\0' x </dev/zero", TOO_MUCH), "endless_lines": (b"exec yes", TOO_MUCH),
     "endless_messages": (b"cat good.answer; exec tr '\\0' x </dev/zero >&2", TOO_MUCH), "endless_fields": (b"exec yes '{\"size\": 7}'", TOO_MUCH),
     "says_no": (b"echo 'facl-ask: no snapshot' >&2; exit 2", b"no snapshot"), "says_much": (b"tr '\\0' x </dev/zero | head -c 500000 >&2; exit 2", b"x" * 10_000),
-    "nothing": (b"cat >/dev/null", b"did not answer"), "fails": (b"cat good.answer; exit 1", b"facl-ask ended with status 1"),
-    "dies": (b"head -c 300 good.answer; kill -9 $$", b"facl-ask ended with status 137"),
+    "nothing": (b"cat >/dev/null", b"did not answer"), "fails": (b"cat good.answer; exit 1", b"facl ended with status 1"),
+    "dies": (b"head -c 300 good.answer; kill -9 $$", b"facl ended with status 137"),
+    "without": (b"echo 'bash: line 1: facl: command not found' >&2; exit 127", b"facl is not on the path there: bash: line 1: facl: command not found"),
+    "earlier": (b"echo 'facl: answer-part: no such verb; facl help lists them' >&2; exit 2", OTHER_VERSION),
+    "later": (b"echo 'usage: facl-ask [-h]' >&2; echo 'facl-ask: error: unrecognized arguments: --x' >&2; exit 2", OTHER_VERSION),
 }
 
 
@@ -194,7 +198,17 @@ class WrongServers(Case):
     def test_a_worker_is_killed(self) -> None:
         self.executable("killer", b"#!/bin/sh\nkill -9 $PPID\n")
         done = self.run_command("facl-ask", ["--each", "--program", self.path("killer"), "before", "before"], SCRIPT, self.environment())
-        self.expect(done, 2, b"", b"facl-ask: facl-ask ended with status 137\n")
+        self.expect(done, 2, b"", b"facl-ask: facl ended with status 137\n")
+
+    def test_the_word_of_other_machines(self) -> None:
+        """It answers as the command does where it comes first; it is no verb that a person finds."""
+        done = self.run_command("facl-verbs", ["answer-part", "--", "before"], SCRIPT)
+        self.assertEqual((done.status, done.out), (0, self.answer))
+        done = self.run_command("facl-verbs", ["answer-part", "--", "absent"], SCRIPT)
+        self.expect(done, 2, b"", b"facl-ask: absent: no such folder; make a snapshot with facl snapshot\n")
+        done = self.run_command("facl-verbs", ["-q", "answer-part", "--", "before"], SCRIPT)
+        self.expect(done, 2, b"", b"facl: answer-part: no such verb; facl help lists them\n")
+        self.assertNotIn(b"answer-part", self.run_command("facl-verbs", ["help"]).out)
 
 
 if __name__ == "__main__":

@@ -10,7 +10,7 @@ import unittest
 from typing import List
 
 from common import COMMANDS
-from test_completion import FILES, SCRIPT, Shell
+from test_completion import FILES, SCRIPT, Shell, made
 from verb_case import VerbCase
 
 sys.path.insert(0, COMMANDS)
@@ -18,20 +18,9 @@ sys.path.insert(0, COMMANDS)
 from facl_commands.verbs.options import FINDINGS  # noqa: E402
 from facl_commands.verbs.table import VERBS, parser_of  # noqa: E402
 
-FUNCTIONS = os.path.join(COMMANDS, "completion", "facl.bash")
 HOSTILE_NAMES = ('$(touch$IFS"made")', "`touch${IFS}made`", "${x[$(touch made)]}", "x;touch made", "a b", "it's",
                  'd"q', "-x", "*", "!!")
 VERB_NAMES = sorted(verb.name for verb in VERBS if " " not in verb.name)
-
-
-def made(shell: str) -> str:
-    """The completion of a shell, as it is installed."""
-    words = [sys.executable, "-I", os.path.join(COMMANDS, "facl-verbs"), "complete", shell]
-    text = subprocess.run(words, stdout=subprocess.PIPE, text=True, check=True).stdout
-    if shell != "bash":
-        return text
-    with open(FUNCTIONS, encoding="utf-8") as file:
-        return file.read() + text
 
 
 @unittest.skipIf(shutil.which("bash") is None, "it takes bash")

@@ -283,8 +283,9 @@ guest can do nothing with /srv/project/notes.txt: /srv/project gives no search p
         settings = os.fsencode(self.path("etc/facl-daily"))
         with mock.patch.dict(os.environ, {"PATH": self.path("bin") + ":/usr/bin:/bin", "FACL_STORE": "/var/lib/facl"}):
             self.assertRaises(Failure, timer.settings_of, self.prepared("*.x"))
+            self.assertRaises(Failure, timer.settings_of, self.prepared("a b"))
             given = self.prepared("tmp")
-            text = b'FACL_DAILY="--mail=root --folder=/var/lib/facl --snapshot=--exclude=tmp -- /srv"\n'
+            text = b'FACL_STORE=/var/lib/facl\nFACL_DAILY="--mail=root --exclude=tmp --cross-file-systems -- /srv"\n'
             self.assertEqual(timer.settings_of(given), timer.HEAD + text)
             with mock.patch.multiple(timer, UNITS=(self.path("units"),), SETTINGS=settings):
                 said = [self.installed(given), self.installed(given)]
@@ -294,7 +295,7 @@ guest can do nothing with /srv/project/notes.txt: /srv/project gives no search p
         self.assertEqual(self.read("called"), b"enable --now facl-daily.timer\n" * 2)
 
     def prepared(self, glob: str) -> argparse.Namespace:
-        words = ["--install", "--mail", "root", "--exclude=" + glob, "/srv"]
+        words = ["--install", "--mail", "root", "--exclude=" + glob, "--cross-file-systems", "/srv"]
         given = parser_of(BY_VERB["daily"]).parse_intermixed_args(words)
         prepare.daily(Command("facl daily"), given)
         return given

@@ -190,7 +190,7 @@ class Daily(Check):
             expect(other.wait() == 1, "another user opened the lock")
         with open(lock, "rb") as file:
             fcntl.flock(file, fcntl.LOCK_EX)
-            expect(b"another facl-daily" in self.daily(2), "no reason")
+            expect(b"another facl daily" in self.daily(2), "no reason")
         for kind in ("pipe", "link", "name", "other", "open"):
             os.unlink(lock)
             self.make_lock(lock, kind)

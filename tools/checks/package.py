@@ -43,7 +43,6 @@ for package; do
     inside dpkg -i "/tmp/${package##*/}"
     [ "$enabled" ] || ln -s /lib/systemd/system/facl-daily.timer root/etc/systemd/system/timers.target.wants
     enabled=yes
-    inside facl-who --version
     inside facl --version
     step installed
 done
@@ -131,8 +130,9 @@ def check_life(packages: List[str], folder: str) -> None:
     modules = [path for path in found["installed"] if path.startswith("./usr/libexec/facl/facl_commands/")]
     compiled = sum(path.endswith(".pyc") for path in modules)
     expect(compiled == sum(path.endswith(".py") for path in modules) > 0, f"{compiled} modules are compiled")
-    for name in ("facl-who", "facl"):
-        expect(f"{name} {field(packages[-1], 'Version')}\n" in found[""][0], f"{name} has another version")
+    expect(f"facl {field(packages[-1], 'Version')}\n" in found[""][0], "facl has another version")
+    on_path = [path for path in found["installed"] if re.match(r"\./usr/s?bin/", path)]
+    expect(on_path == ["./usr/bin/facl", "./usr/bin/facl_linux"], f"on the path: {on_path}")
     expect(LINK in found["installed"] and LINK in found["removed"], "the timer is no longer enabled")
     left = [path for path in found["removed"] if "deb-systemd-helper" not in path]
     expect(left == sorted([SETTINGS, LINK, KEPT]), f"left after it was removed: {left}")

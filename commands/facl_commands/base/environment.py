@@ -6,6 +6,7 @@ from typing import Dict
 
 # What would have a called program take other words, or read other files, than it is given.
 LEFT_OUT = ("POSIXLY_CORRECT", "PYTHONPATH", "PYTHONHOME", "PERL5LIB", "PERL5OPT")
+PART = "answer-part"  # The word by which another machine's facl answers a script: ask/parts/runs.py; nobody types it.
 HOME = os.path.dirname(os.path.dirname(os.path.dirname(os.path.realpath(__file__))))  # commands/, or PREFIX/libexec/facl.
 
 

@@ -2,6 +2,7 @@
 from __future__ import annotations
 
 import os
+import re
 import signal
 import subprocess
 from types import FrameType
@@ -11,7 +12,7 @@ from ..base.environment import HOME
 from ..base.messages import SIGNALS, Interrupted
 
 SAID_LIMIT = 16 << 20  # Bytes that are kept of what a command prints.
-BINARIES = os.path.join(HOME, "..", "..", "bin")  # Of an installed command.
+NAME = re.compile(rb"^facl-([a-z]+): ", re.MULTILINE)  # Of a command, before its messages.
 
 
 class Done(NamedTuple):
@@ -20,10 +21,8 @@ class Done(NamedTuple):
 
 
 def environment() -> Dict[str, str]:
-    """That of the commands: those beside this one come first."""
-    path = os.pathsep.join([HOME, *[BINARIES] * os.path.exists(os.path.join(BINARIES, "facl-snapshot")),
-                            os.environ.get("PATH", os.defpath)])
-    return {**os.environ, "PATH": path, "LC_ALL": "C.UTF-8"}
+    """That of the commands: the programs beside them come first."""
+    return {**os.environ, "PATH": HOME + os.pathsep + os.environ.get("PATH", os.defpath), "LC_ALL": "C.UTF-8"}
 
 
 def read_some(stream: IO[bytes]) -> bytes:
@@ -65,13 +64,15 @@ class Children:
             raise Interrupted(self.number)
 
     def run(self, words: Sequence[str], passed: Sequence[int] = ()) -> Done:
-        """Runs a command, which has the descriptors that are passed; a lock is held as long as one of its processes is there."""
+        """Runs a command of those beside this one; the messages that it prints name its verb. It has the descriptors that are
+        passed; a lock is held as long as one of its processes is there."""
         self.check()
         said: List[bytes] = []
+        words = [os.path.join(HOME, words[0]), *words[1:]]
         child = subprocess.Popen(words, stdin=subprocess.DEVNULL, stdout=subprocess.PIPE, stderr=subprocess.STDOUT,
                                  pass_fds=passed, env=environment())
         status = self.status_of(child, said)
-        return Done(status, b"".join(said))
+        return Done(status, NAME.sub(rb"facl \1: ", b"".join(said)))
 
     def wait_for_interrupted(self) -> None:
         """Waits for the command that a signal ended, since it removes what it made."""

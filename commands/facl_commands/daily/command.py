@@ -12,6 +12,7 @@ from .folder import NEW, DailyFolder
 from .text import Text, find_sendmail
 from .words import HELP, Words, address_of, read_words
 
+SNAPSHOT = "facl-snapshot"
 KILLED = b"an earlier run was killed"
 ANSWERED = (0, 1)  # Statuses of a command that could be asked.
 
@@ -31,13 +32,13 @@ class Asking:
         said = done.said.replace(self.folder.work + b"/" + NEW, self.new_name)
         if done.status not in ANSWERED:
             self.text.fail(title, done.status, said)
-        elif done.status == 1 or title == b"facl-snapshot" and said:
+        elif done.status == 1 or words[0] == SNAPSHOT and said:
             self.text.add(title, said)
             self.text.has_something = self.text.has_something or done.status == 1
         return done.status
 
     def take_snapshot(self) -> bool:
-        self.ask(b"facl-snapshot", "facl-snapshot", "--quiet", *self.given.options, os.fsdecode(self.place), *self.given.folders)
+        self.ask(b"facl snapshot", SNAPSHOT, "--quiet", *self.given.options, os.fsdecode(self.place), *self.given.folders)
         is_there = os.path.isdir(self.place)
         if not is_there:
             self.text.reasons.insert(0, b"no snapshot")
@@ -57,7 +58,7 @@ class Asking:
             self.ask(b"rules that do not hold (facl check)", "facl-check", *given.judge, "--quiet", new, given.rules)
         is_usable = (compared if old else audited) in ANSWERED
         if not is_usable:
-            self.text.add(b"facl-daily", b"the new snapshot is not kept, since what changed cannot be said; the next run "
+            self.text.add(b"facl daily", b"the new snapshot is not kept, since what changed cannot be said; the next run "
                           b"compares with %s\n" % (old + b" again" if old else b"none"))
         return is_usable
 
@@ -136,7 +137,7 @@ def status_of(run: DailyRun, words: List[str]) -> int:
     except MemoryError:
         reason = b"memory ran out"
     except Exception as error:  # A fault of the command itself is not silent either.
-        reason = b"a fault of facl-daily: " + repr(error).encode(errors="backslashreplace")
+        reason = b"a fault of facl daily: " + repr(error).encode(errors="backslashreplace")
     run.fail(reason)
     return status
 

@@ -51,7 +51,7 @@ class Text:
         """Adds a line of facl-daily itself, and a reason."""
         self.reasons.append(reason)
         self.has_something = True
-        self.add(b"facl-daily", shown(line) + b"\n")
+        self.add(b"facl daily", shown(line) + b"\n")
 
     def fail(self, title: bytes, status: int, said: bytes) -> None:
         """Adds what a command said that failed; the last line of the first such command is a reason."""

@@ -52,7 +52,7 @@ ACL5 = "--acl5"
 DEFAULTS = {"--folder": "/var/lib/facl", "--keep": "30", "--fail-on": "high"}
 WEIGHTS = ("high", "middle", "low", "none")
 ADDRESS = re.compile(r"[A-Za-z0-9@._+][A-Za-z0-9@._+-]*")
-HINT = "; facl-daily --help prints the options"
+HINT = "; facl daily --help prints the options"
 
 
 class Words(NamedTuple):
@@ -81,7 +81,7 @@ def whole(name: str) -> str:
 def fault_of(last: "dict[str, str]", is_split: bool, folders: List[str]) -> str:
     """What is wrong with the values of options or with the FOLDERs; empty where they are right."""
     for is_wrong, text in (
-            (not folders, "a FOLDER is missing, as in: facl-daily /srv/project"),
+            (not folders, "a FOLDER is missing, as in: facl daily /srv/project"),
             (not last["--folder"], "--folder: takes a word"),
             (not re.fullmatch("[1-9][0-9]{0,8}", last["--keep"]), f"--keep {last['--keep']}: is not a number of snapshots"),
             (last["--fail-on"] not in WEIGHTS, f"--fail-on {last['--fail-on']}: give high, middle, low or none"),

@@ -24,7 +24,7 @@ function findingBox({name, weight, meaning, count, files: found}) {
   box.ontoggle = () => {
     if (!box.open || all.children.length) return;
     all.append(...found.map(foundFile));
-    if (rest) all.append(element("li", {textContent: "and " + numbered(rest) + " more: facl-audit --list " + name}));
+    if (rest) all.append(element("li", {textContent: "and " + numbered(rest) + " more: facl audit --list " + name}));
   };
   return box;
 }

@@ -230,7 +230,7 @@ function drawEdits() {
   for (const it of [count, done]) it.setAttribute("role", "status");
   return element("section", {id: "edits"}, element("h2", {textContent: "Edits"}), count, lines,
     element("p", {className: "bar"}, button("copy", "copy", copyLines), button("save", "save as edits", saveLines), button("clear", "clear all ticks", clearTicks), done),
-    element("p", {}, "The administrator looks at what they change, and for whom, by ", element("code", {textContent: "facl-plan " + data.snapshot + " edits"})));
+    element("p", {}, "The administrator looks at what they change, and for whom, by ", element("code", {textContent: "facl plan -s " + data.snapshot + " edits"})));
 }
 
 function drawHead() {

@@ -18,9 +18,9 @@ from .chown import files_of
 
 HEAD = b"""\
 #!/bin/sh
-# What facl-apply does not do of this plan: %(what)s.
+# What facl apply does not do of this plan: %(what)s.
 #
-# Read it, and run it as root after facl-apply: sh PLAN/by_hand. Each line with a number is one thing, which can only be put
+# Read it, and run it as root after facl apply: sh PLAN/by_hand. Each line with a number is one thing, which can only be put
 # after a #, where it is done already in another way, or is not wanted; a directory that is made is one with all in it.
 #
 # Each is said before it is done, once the users, groups, folders and files are those of the snapshot (ids; device, inode and
@@ -40,7 +40,7 @@ UNDO_HEAD = b"""\
 #!/bin/sh
 # Takes back what by_hand of this plan has done, the last thing first.
 #
-# Read it, and run it as root, before facl-apply --undo or after it: sh PLAN/by_hand_undo. Put a # before a line that is to stay.
+# Read it, and run it as root, before facl undo or after it: sh PLAN/by_hand_undo. Put a # before a line that is to stay.
 # What by_hand_done does not have is left as it is. What was made is removed where it is still that file, and empty; it is
 # looked up as by_hand does it.
 %(blind)s#

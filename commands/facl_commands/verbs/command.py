@@ -7,7 +7,7 @@ import os
 from typing import Callable, List, NamedTuple
 
 from .. import VERSION
-from ..base.environment import HOME
+from ..base.environment import HOME, PART
 from ..base.messages import Command, Failure
 from ..base.progress import AT
 from .options import BY_FIELD, BY_NAME, PATH
@@ -82,7 +82,16 @@ def start(command: Command, verb: Verb, given: argparse.Namespace) -> int:
     return run(command, words_of(verb, given) if verb.words and not is_other else given)
 
 
+def answer_part(command: Command, words: List[str]) -> int:
+    """Answers for the facl of another machine, which gives the words of facl-ask, and reads its messages."""
+    command.name = b"facl-ask"
+    run: Callable[..., int] = importlib.import_module(PACKAGE + ".ask.command").body
+    return run(command, ["--part", *words])
+
+
 def body(command: Command, words: List[str]) -> int:
+    if words[:1] == [PART]:
+        return answer_part(command, words[1:])
     if words[:1] == ["--version"]:
         command.write(version())
         return 0

@@ -76,7 +76,10 @@ def ask(command: Command, given: argparse.Namespace) -> None:
 
 
 def daily(_command: Command, given: argparse.Namespace) -> None:
-    """Puts the options of recording into one word, which facl-daily cuts at blanks."""
+    """Puts the options of recording into one word, which facl-daily cuts at blanks; the timer gets the words as they are."""
+    given.store = os.fsdecode(store.place())
+    if given.install:
+        return
     words = ["--exclude=" + it for it in given.exclude] + ["--users=" + it for it in (given.users,) if it] + [
         "--readers=" + it for it in (given.readers,) if it] + ["--cross-file-systems"] * given.cross_file_systems
     for word in words:
@@ -84,4 +87,3 @@ def daily(_command: Command, given: argparse.Namespace) -> None:
             raise Failure(os.fsencode(word) + b": may have no blank here")
     given.exclude, given.users, given.readers, given.cross_file_systems = [], None, None, False
     given.recording = " ".join(words) or None
-    given.store = os.fsdecode(store.place())

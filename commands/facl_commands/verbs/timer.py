@@ -1,4 +1,4 @@
-"""facl daily --install: has the timer of systemd run facl-daily each day, with the words of the line."""
+"""facl daily --install: has the timer of systemd run `facl daily` each day, with the words of the line."""
 from __future__ import annotations
 
 import argparse
@@ -10,22 +10,27 @@ from ..base import new_file, trusted
 from ..base.environment import environment_of_called
 from ..base.messages import Command, Failure
 from ..base.names import PLAIN_SHELL_WORD
-from .table import BY_VERB, words_of
+from .options import BY_FIELD
+from .store import STORE
+from .table import BY_VERB, of_option
 
 SETTINGS = b"/etc/default/facl-daily"
 TIMER = "facl-daily.timer"
 UNITS = ("/usr/lib/systemd/system", "/lib/systemd/system", "/etc/systemd/system")
-HEAD = b"# The words of facl-daily, which the timer starts: man facl-daily. `facl daily --install` wrote them.\n"
+HEAD = b"# The store and the words of `facl daily`, which the timer starts: man facl-daily. `facl daily --install` wrote them.\n"
 KEPT = b".before"  # After the name of settings that were there.
 
 
 def settings_of(given: argparse.Namespace) -> bytes:
-    """The file of settings. systemd cuts the words at blanks."""
-    words = [*map(os.fsencode, words_of(BY_VERB["daily"], given))]
-    for word in words:
+    """The file of settings: the store, and the words of the line but for --install. systemd cuts these at blanks."""
+    options = [BY_FIELD[field] for field in BY_VERB["daily"].options if field != "install"]
+    line = [word for it in options for word in of_option(it.names[-1], getattr(given, it.field()))]
+    words = [os.fsencode(word) for word in [*line, "--", *given.folders]]
+    store = os.fsencode(given.store)
+    for word in (store, *words):
         if not PLAIN_SHELL_WORD.match(word):
             raise Failure(word + b": the timer takes words of letters, digits and ./:=@%+,_- alone")
-    return HEAD + b'FACL_DAILY="%s"\n' % b" ".join(words)
+    return HEAD + b'%s=%s\nFACL_DAILY="%s"\n' % (STORE, store, b" ".join(words))
 
 
 def write_settings(text: bytes) -> bool:

@@ -49,7 +49,7 @@ def say(command: Command, server: Server, texts: List[bytes]) -> None:
 class Printer:
     """What the servers answered, line by line of the script, and of each line server by server.
 
-    Of a server whose answer is none of facl-ask's, what comes after its fault is left out.
+    Of a server whose answer is none of facl's, what comes after its fault is left out.
     """
 
     def __init__(self, command: Command, parts: Dict[Server, Part], given: argparse.Namespace,

@@ -12,7 +12,7 @@ import time
 from typing import IO, Dict, List, NamedTuple, Sequence, Union
 
 from ...base import scratch
-from ...base.environment import HOME, environment_of_called
+from ...base.environment import HOME, PART, environment_of_called
 from ...base.messages import Failure
 from ...base.programs import program_words
 from ...model.everybody import Everybody
@@ -30,7 +30,10 @@ MOST_READ = 16_777_216  # Bytes of another machine's answers that are read into 
 MOST_WRITTEN = 1 << 32  # Bytes that it may write into one file, where there is room.
 MOST_SAID = 10_000  # Bytes of its messages in which the first one is looked for.
 CUT = b"a snapshot did not answer to the end"
+NAME = b"facl-ask: "  # Before a message of it.
+NOT_FOUND = 127  # The status of a shell that finds no such command.
 NOT_READABLE = b"an answer cannot be read; facl may be of another version there"
+OTHER_VERSION = b"facl there is of another version, which does not take what this one asks"
 
 
 class Server(NamedTuple):
@@ -42,10 +45,10 @@ class Server(NamedTuple):
 
     def words(self, options: Sequence[bytes]) -> List[bytes]:
         """The command that answers a script there. ssh gives its last word to the shell of the other machine."""
-        words = [b"--part", *options, b"--", self.folder]
+        words = [*options, b"--", self.folder]
         if self.host == HERE:
-            return [os.fsencode(sys.executable), b"-I", os.fsencode(os.path.join(HOME, "facl-ask")), *words]
-        return [b"ssh", b"--", self.host, b"facl-ask " + os.fsencode(shlex.join(map(os.fsdecode, words)))]
+            return [os.fsencode(sys.executable), b"-I", os.fsencode(os.path.join(HOME, "facl-ask")), b"--part", *words]
+        return [b"ssh", b"--", self.host, os.fsencode(shlex.join(["facl", PART, *map(os.fsdecode, words)]))]
 
 
 class Answered(NamedTuple):
@@ -138,14 +141,22 @@ class PartRun:
         if not self.is_here and max(self.size, said) >= self.room:
             raise Failure(b"what it wrote takes more than the %d bytes that there is room for" % self.room)
         if self.process.returncode != 0:
-            lines = os.pread(self.messages.fileno(), MOST_SAID, 0).splitlines()
-            text = next(filter(None, lines), b"").replace(b"facl-ask: ", b"", 1)
-            status = self.process.returncode
-            raise Failure(text or b"facl-ask ended with status %d" % (status if status > 0 else 128 - status))
+            raise Failure(self.reason(os.pread(self.messages.fileno(), MOST_SAID, 0)))
         if self.size == 0:
             raise Failure(b"did not answer")
         self.room = self.size if self.is_here else MOST_READ  # For what is kept in memory.
         self.out.seek(0)
+
+    def reason(self, said: bytes) -> bytes:
+        """Why it ended, by the first of its messages. Where facl is not there, or does not take these words, that is of a
+        shell, or of another version."""
+        text = next(filter(None, said.splitlines()), b"").removeprefix(NAME)
+        status = self.process.returncode
+        if text.startswith((b"usage: ", b"facl: " + PART.encode())):
+            return OTHER_VERSION
+        if status == NOT_FOUND and not self.is_here:
+            return b"facl is not on the path there" + (b": " + text if text else b"")
+        return text or b"facl ended with status %d" % (status if status > 0 else 128 - status)
 
     def line(self) -> bytes:
         line = self.out.readline(self.room + 1)

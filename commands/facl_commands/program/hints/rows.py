@@ -85,7 +85,7 @@ ROWS: List[HintRow] = [
     row(UNKNOWN, first("mv cp ln rename move copy link rsync tar chattr"), "No line moves, copies or links files, or changes "
         "attributes such as immutable.", None, "mv FILE srv/share/three"),
     row(UNKNOWN, first("cd pwd help ? quit exit man echo printf for while if do done then else fi case set export bash sh python3 "
-                       "perl awk sed grep cut sort uniq xargs time env facl-ask facl-plan facl-apply facl-report facl-snapshot"),
+                       "perl awk sed grep cut sort uniq xargs time env facl"),
         "No shell reads the line: each is a tool of facl with its words, and paths start at the root. Loops, filters and "
         "commands are around facl ask; help and quit are words of its prompt.", None, "for u in ines ben; do can $u FILE; done"),
     # What a shell would read.
@@ -93,7 +93,7 @@ ROWS: List[HintRow] = [
         "a blank is in single quotes.", rb"'\1\2'", 'who r "srv/share/plan 2 "', "who r 'srv/share/plan 2 '"),
     row(WORDS, rb" ?(?:;|&&|\|\|) ?OUTSIDE", "A line is one command: no ;, &&, || or & ends it. Each has a line of its own.",
         b"\n", "setfacl -x u:mara srv/share/notes; changes", "setfacl -x u:mara srv/share/notes\nchanges"),
-    row(WORDS, rb" ?(?:\d?[<>]|\||&$)OUTSIDE.*", "No shell reads the line, so |, < and > are words like any other. What facl-ask "
+    row(WORDS, rb" ?(?:\d?[<>]|\||&$)OUTSIDE.*", "No shell reads the line, so |, < and > are words like any other. What facl ask "
         "prints goes to a command or a file: facl ask SCRIPT | wc -l", b"", "may ines r | wc -l", "may ines r"),
     row(WORDS, rb"\$[A-Za-z_({]OUTSIDE|`OUTSIDE", "No shell reads the line: variables and commands in it are not expanded.", None,
         "can $USER FILE", "can ines FILE"),

@@ -71,7 +71,7 @@ def write_rules(command: Command, world: World, given: argparse.Namespace, sourc
     tops = choice.folders_of(world.session, given.rules)
     if not given.rules:
         tops = choice.folders_made_of(world.session) or tops
-    command.write(b"# These rules hold in %s; see FACL-CHECK of man facl-commands.\n" % shown(
+    command.write(b"# These rules hold in %s; see man 5 facl-rules.\n" % shown(
         named(source.shown, meta_of(source.folder))))
     for line in rules_that_hold(rights, RuleReader(world, set(chosen), given.with_root), tops):
         command.write(line + b"\n")

@@ -44,7 +44,7 @@ class State(NamedTuple):
         try:
             return People(self.passwd, self.group)
         except (IndexError, ValueError) as error:
-            raise Failure(self.folder + b": passwd or group has a row that the program does not load: facl-ask "
+            raise Failure(self.folder + b": passwd or group has a row that the program does not load: facl ask -s "
                           + self.folder + b" says which") from error
 
 
