@@ -48,62 +48,62 @@ def with_entries(body: bytes, *entries: bytes) -> bytes:
 FILE = b"/srv/hr/new"
 MADE: Dict[str, Made] = {
     "writable-by-everybody": Made(
-        {b"/srv/hr/": OPEN, FILE: PLAIN.replace(b"other::---", b"other::-w-")}, b"srv/hr/new", b"",
+        {b"/srv/hr/": OPEN, FILE: PLAIN.replace(b"other::---", b"other::-w-")}, b"/srv/hr/new", b"",
         b"setfacl -n -m o::--- /srv/hr/new"),
     "readable-by-everybody": Made(
-        {b"/srv/hr/": OPEN, FILE: PLAIN.replace(b"other::---", b"other::r--")}, b"srv/hr/new", b"",
+        {b"/srv/hr/": OPEN, FILE: PLAIN.replace(b"other::---", b"other::r--")}, b"/srv/hr/new", b"",
         b"setfacl -n -m o::--- /srv/hr/new"),
     "execute-for-everybody": Made(
-        {b"/srv/hr/": OPEN, FILE: PLAIN.replace(b"other::---", b"other::--x")}, b"srv/hr/new", b"",
+        {b"/srv/hr/": OPEN, FILE: PLAIN.replace(b"other::---", b"other::--x")}, b"/srv/hr/new", b"",
         b"setfacl -n -m o::--- /srv/hr/new"),
     "writable-behind-closed": Made(
-        {FILE: PLAIN.replace(b"other::---", b"other::-w-")}, b"srv/hr/new", b"closed by srv/hr",
+        {FILE: PLAIN.replace(b"other::---", b"other::-w-")}, b"/srv/hr/new", b"closed by /srv/hr",
         b"setfacl -n -m o::--- /srv/hr/new"),
     "readable-behind-closed": Made(
-        {FILE: PLAIN.replace(b"other::---", b"other::r--")}, b"srv/hr/new", b"closed by srv/hr",
+        {FILE: PLAIN.replace(b"other::---", b"other::r--")}, b"/srv/hr/new", b"closed by /srv/hr",
         b"setfacl -n -m o::--- /srv/hr/new"),
     "set-user-id": Made(
-        {FILE: b"# owner: 1001\n# group: 2001\n# flags: ss-\nuser::rwx\ngroup::r-x\nother::---\n"}, b"srv/hr/new", b"",
+        {FILE: b"# owner: 1001\n# group: 2001\n# flags: ss-\nuser::rwx\ngroup::r-x\nother::---\n"}, b"/srv/hr/new", b"",
         b"chmod 2750 /srv/hr/new", beside="set-group-id"),
     "set-group-id": Made(
-        {FILE: b"# owner: 1001\n# group: 2001\n# flags: -s-\nuser::rwx\ngroup::r-x\nother::---\n"}, b"srv/hr/new", b"",
+        {FILE: b"# owner: 1001\n# group: 2001\n# flags: -s-\nuser::rwx\ngroup::r-x\nother::---\n"}, b"/srv/hr/new", b"",
         b"chmod 0750 /srv/hr/new"),
     "writable-by-teams": Made(
         {b"/srv/hr/both/": with_entries(FOLDER, b"group:2002:rwx"), b"/srv/hr/": with_entries(FOLDER, b"group:2002:--x")},
-        b"srv/hr/both", b"group hr, group law", b"chmod 1770 /srv/hr/both"),
+        b"/srv/hr/both", b"group hr, group law", b"chmod 1770 /srv/hr/both"),
     "writer-outside-groups": Made(
         {FILE: with_entries(PLAIN, b"user:1009:rw-"), b"/srv/hr/": with_entries(FOLDER, b"user:1009:--x")},
-        b"srv/hr/new", b"user xaver", b"setfacl -n -x u:xaver /srv/hr/new"),
+        b"/srv/hr/new", b"user xaver", b"setfacl -n -x u:xaver /srv/hr/new"),
     "mask-cuts-entry": Made(
         {FILE: with_entries(PLAIN, b"user:1009:rwx").replace(b"mask::rwx", b"mask::r--"),
          b"/srv/hr/": with_entries(FOLDER, b"user:1009:--x")},
-        b"srv/hr/new", b"user xaver: rwx is r--", b"setfacl -n -m u:xaver:r-- /srv/hr/new"),
+        b"/srv/hr/new", b"user xaver: rwx is r--", b"setfacl -n -m u:xaver:r-- /srv/hr/new"),
     "empty-mask": Made(
         {FILE: with_entries(PLAIN, b"user:1003:---").replace(b"mask::rwx", b"mask::---").replace(b"other::---", b"other::--x"),
          b"/srv/hr/": with_entries(OPEN, b"user:1003:--x")},
-        b"srv/hr/new", b"user carl: --- is --x", b"setfacl -n -m u:carl:---,g::---,m::--x /srv/hr/new",
+        b"/srv/hr/new", b"user carl: --- is --x", b"setfacl -n -m u:carl:---,g::---,m::--x /srv/hr/new",
         beside="execute-for-everybody entry-without-effect"),
     "owner-without-row": Made(
-        {FILE: PLAIN.replace(b"owner: 1001", b"owner: 4711").replace(b"group: 2001", b"group: 4712")}, b"srv/hr/new",
+        {FILE: PLAIN.replace(b"owner: 1001", b"owner: 4711").replace(b"group: 2001", b"group: 4712")}, b"/srv/hr/new",
         b"user 4711, group 4712", b"chown 0:0 /srv/hr/new"),
     "entry-without-row": Made(
         {b"/srv/hr/sub/": with_entries(FOLDER, b"user:4711:r--") + b"default:user::rwx\ndefault:user:4711:r--\n"
          b"default:group::rwx\ndefault:group:4712:r--\ndefault:mask::rwx\ndefault:other::---\n"},
-        b"srv/hr/sub", b"user 4711, default user 4711, default group 4712",
+        b"/srv/hr/sub", b"user 4711, default user 4711, default group 4712",
         b"setfacl -n -x u:4711,d:u:4711,d:g:4712 /srv/hr/sub", beside="default-differs"),
     "links-across-folders": Made(
-        {b"/srv/hr/sub/": FOLDER, b"/srv/hr/sub/pay": CLEAN[b"/srv/hr/pay"]}, b"srv/hr/sub/pay",
-        b"is one file with srv/hr/pay", b"rm /srv/hr/sub/pay", links=b"/srv/hr/pay\n/srv/hr/sub/pay\n"),
+        {b"/srv/hr/sub/": FOLDER, b"/srv/hr/sub/pay": CLEAN[b"/srv/hr/pay"]}, b"/srv/hr/sub/pay",
+        b"is one file with /srv/hr/pay", b"rm /srv/hr/sub/pay", links=b"/srv/hr/pay\n/srv/hr/sub/pay\n"),
     "entry-without-effect": Made(
-        {FILE: with_entries(PLAIN, b"user:1001:r--", b"group:2002:---")}, b"srv/hr/new", b"user anna, group law",
+        {FILE: with_entries(PLAIN, b"user:1001:r--", b"group:2002:---")}, b"/srv/hr/new", b"user anna, group law",
         b"setfacl -n -x u:anna,g:law /srv/hr/new"),
     "default-not-inherited": Made(
         {b"/srv/hr/sub/": FOLDER + b"default:user::rwx\ndefault:group::rwx\ndefault:other::---\n",
-         b"/srv/hr/sub/deep/": FOLDER}, b"srv/hr/sub/deep", b"lacks the default ACL of srv/hr/sub",
+         b"/srv/hr/sub/deep/": FOLDER}, b"/srv/hr/sub/deep", b"lacks the default ACL of /srv/hr/sub",
         b"setfacl -n -m d:u::rwx,d:g::rwx,d:o::--- /srv/hr/sub/deep"),
     "default-differs": Made(
         {b"/srv/hr/sub/": with_entries(FOLDER, b"user:1009:--x") + b"default:user::rwx\ndefault:group::rwx\n"
-         b"default:group:2002:r-x\ndefault:mask::rwx\ndefault:other::---\n"}, b"srv/hr/sub",
+         b"default:group:2002:r-x\ndefault:mask::rwx\ndefault:other::---\n"}, b"/srv/hr/sub",
         b"new files get no entry of user xaver; new files alone get one of group law",
         b"setfacl -n -m d:u:xaver:--x -x d:g:law /srv/hr/sub"),
 }
@@ -161,7 +161,7 @@ class EachFinding(Audits):
         self.take({b"/srv/hr/": OPEN, b"/srv/hr/drop/": b"# owner: 0\n# group: 0\n# flags: --t\nuser::rwx\ngroup::rwx\nother::-wx\n",
                    b"/srv/hr/no/": b"# owner: 0\n# group: 0\nuser::rwx\ngroup::rwx\nother::-w-\n"})
         rows = self.rows()
-        self.assertEqual(rows, [[b"high", b"writable-by-everybody", b"1", b"srv/hr/drop", b"sticky",
+        self.assertEqual(rows, [[b"high", b"writable-by-everybody", b"1", b"/srv/hr/drop", b"sticky",
                                  b"setfacl -n -m o::--x /srv/hr/drop"]])
 
     def test_one_folder_at_two_places(self) -> None:
@@ -186,12 +186,12 @@ class EachFinding(Audits):
         self.take({b"/srv/hr/": reaching, b"/srv/hr/a/": FOLDER, b"/srv/hr/a/in/": reaching, b"/srv/hr/a/in/f": named,
                    b"/srv/hr/b/": reaching, b"/srv/hr/b/f": named, b"/srv/hr/b/in/": reaching, b"/srv/hr/b/in/f": named, FILE: named})
         lines = self.audit("--list", "writer-outside-groups", "--tsv").out.splitlines()[1:]
-        self.assertEqual(sorted(line.split(b"\t")[0] for line in lines), [b"srv/hr/b/f", b"srv/hr/b/in/f", b"srv/hr/new"])
+        self.assertEqual(sorted(line.split(b"\t")[0] for line in lines), [b"/srv/hr/b/f", b"/srv/hr/b/in/f", b"/srv/hr/new"])
         open_file = PLAIN.replace(b"other::---", b"other::r--")
         self.take({b"/srv/hr/": OPEN, b"/srv/hr/a/": FOLDER, b"/srv/hr/a/in/": OPEN, b"/srv/hr/a/in/f": open_file, b"/srv/hr/b": open_file})
         self.assertEqual([row[1:5] for row in self.rows()], [
-            [b"readable-by-everybody", b"1", b"srv/hr/b", b""],
-            [b"readable-behind-closed", b"1", b"srv/hr/a/in/f", b"closed by srv/hr/a"]])
+            [b"readable-by-everybody", b"1", b"/srv/hr/b", b""],
+            [b"readable-behind-closed", b"1", b"/srv/hr/a/in/f", b"closed by /srv/hr/a"]])
 
 
 class EverybodyElse(Audits):
@@ -203,7 +203,7 @@ class EverybodyElse(Audits):
 small (of srva, 2026-11-27T03:10:00Z): 3 files at or below /srv/hr
 middle  readable-by-everybody   1 file
         everybody else, whom no ACL names, can read it along its path
-        first: srv/hr/new
+        first: /srv/hr/new
         for facl plan: setfacl -n -m o::--- /srv/hr/new
 findings: 1 middle
 all files of one: facl audit --list readable-by-everybody -s small
@@ -247,12 +247,12 @@ class Words(TwoKinds):
 small (of srva, 2026-11-27T03:10:00Z): 5 files at or below /srv/hr
 high    set-user-id             1 file
         a plain file that is run with the rights of its owner
-        first: srv/hr/new
+        first: /srv/hr/new
         for facl plan: chmod 2750 /srv/hr/new
 middle  set-group-id            2 files
         a plain file that is run with the rights of its group
-        first: srv/hr/new
-        then:  srv/hr/sub/x
+        first: /srv/hr/new
+        then:  /srv/hr/sub/x
         for facl plan: chmod 4750 /srv/hr/new
 findings: 1 high, 1 middle
 all files of one: facl audit --list set-user-id -s small
@@ -274,7 +274,9 @@ all lines of one: facl audit fix set-user-id -s small >edits; facl plan -s small
     def test_a_relative_dump(self) -> None:
         self.write("small/dump", self.read("small/dump").replace(b"# file: /\n", b"# file: x\n").replace(b"# file: /", b"# file: "))
         self.write("small/meta", b"")
-        self.assertTrue(self.audit().out.startswith(b"small: 7 files at or below srv, x\n"), self.audit().out)
+        out = self.audit().out
+        self.assertTrue(out.startswith(b"small: 7 files at or below srv, x\n"), out)
+        self.assertIn(b"        first: srv/hr/new\n        then:  srv/hr/sub/x\n        for facl plan: chmod 4750 srv/hr/new\n", out)
         self.assertEqual(json.loads(self.audit("--json").out)["folders"], ["srv", "x"])
 
     def test_a_page_without_a_name(self) -> None:
@@ -295,7 +297,7 @@ all lines of one: facl audit fix set-user-id -s small >edits; facl plan -s small
 
     def test_list_and_edits(self) -> None:
         self.expect(self.audit("--list", "set-group-id", "--tsv"), 1, b"FILE\tWHAT\tFOR FACL PLAN\n"
-                    b"srv/hr/new\t\tchmod 4750 /srv/hr/new\nsrv/hr/sub/x\t\tchmod 0750 /srv/hr/sub/x\n")
+                    b"/srv/hr/new\t\tchmod 4750 /srv/hr/new\n/srv/hr/sub/x\t\tchmod 0750 /srv/hr/sub/x\n")
         self.expect(self.audit("--edits", "set-group-id"), 1, b"# for facl plan, not for a shell\n"
                     b"chmod 4750 /srv/hr/new\nchmod 0750 /srv/hr/sub/x\n")
 
@@ -395,7 +397,7 @@ class Page(TwoKinds):
     def test_the_page_has_them(self) -> None:
         done = self.audit("--page", "page.html", "--fail-on", "none")
         self.assertEqual((done.status, done.messages), (0, b"facl-audit: wrote page.html\n"))
-        rows = [[it["weight"], it["name"], "%d" % it["count"], it["files"][0][0].lstrip("/")] for it in self.findings("page.html")]
+        rows = [[it["weight"], it["name"], "%d" % it["count"], it["files"][0][0]] for it in self.findings("page.html")]
         self.assertEqual(rows, [[field.decode() for field in row[:4]] for row in self.rows()])
         self.expect(self.audit("--page", "page.html"), 2, b"", b"facl-audit: page.html exists and is not replaced; choose another name\n")
 

@@ -55,49 +55,49 @@ class Checks(SmallTree):
 class Forms(Checks):
     def test_never(self) -> None:
         self.assertEqual(self.broken(b"never carl read srv/hr/"), [])
-        self.assertEqual(self.broken(b"never carl xaver read srv/hr/"), [b"xaver 3 srv/hr"])
+        self.assertEqual(self.broken(b"never carl xaver read srv/hr/"), [b"xaver 3 /srv/hr"])
         self.assertEqual(self.broken(b"never xaver read srv/hr/cases/full/"), [])
-        self.assertEqual(self.broken(b"never @hr write srv/hr/cases/one"), [b"anna 1 srv/hr/cases/one", b"bert 1 srv/hr/cases/one"])
+        self.assertEqual(self.broken(b"never @hr write srv/hr/cases/one"), [b"anna 1 /srv/hr/cases/one", b"bert 1 /srv/hr/cases/one"])
         self.assertEqual(self.broken(b"never @law people read srv/hr/cases/full/three"),
-                         [b"anna 1 srv/hr/cases/full/three", b"bert 1 srv/hr/cases/full/three"])
+                         [b"anna 1 /srv/hr/cases/full/three", b"bert 1 /srv/hr/cases/full/three"])
 
     def test_only(self) -> None:
         self.assertEqual(self.broken(b"only @hr xaver read /srv/hr/"), [])
-        self.assertEqual(self.broken(b"only bert read srv/hr/cases/"), [b"anna 5 srv/hr/cases", b"xaver 2 srv/hr/cases/one"])
+        self.assertEqual(self.broken(b"only bert read srv/hr/cases/"), [b"anna 5 /srv/hr/cases", b"xaver 2 /srv/hr/cases/one"])
         self.assertEqual(self.broken(b"only anna bert write srv/hr/"), [])
-        self.assertEqual(self.broken(b"only @hr enter srv/hr/", "--quiet"), [b"everybody else 4 srv/hr", b"carl 4 srv/hr", b"xaver 2 srv/hr"])
+        self.assertEqual(self.broken(b"only @hr enter srv/hr/", "--quiet"), [b"everybody else 4 /srv/hr", b"carl 4 /srv/hr", b"xaver 2 /srv/hr"])
 
     def test_always(self) -> None:
         self.assertEqual(self.broken(b"always anna write srv/hr/"), [])
-        self.assertEqual(self.broken(b"always @hr write srv/hr/"), [b"bert 1 srv/hr/cases/two"])
+        self.assertEqual(self.broken(b"always @hr write srv/hr/"), [b"bert 1 /srv/hr/cases/two"])
         self.assertEqual(self.broken(b"always others enter srv/hr/"), [])
-        self.assertEqual(self.broken(b"always others read srv/hr/"), [b"everybody else 8 srv/hr"])
+        self.assertEqual(self.broken(b"always others read srv/hr/"), [b"everybody else 8 /srv/hr"])
 
     def test_others(self) -> None:
         self.assertEqual(self.broken(b"never others write /"), [])
-        self.assertEqual(self.broken(b"never others read /"), [b"everybody else 2 ."])
+        self.assertEqual(self.broken(b"never others read /"), [b"everybody else 2 /"])
 
     def test_names_that_begin_alike(self) -> None:
         """What is at or below a path, and nothing beside it that comes before or after in the order of bytes."""
         beside = dict.fromkeys((b"/srv/hr/a!", b"/srv/hr/a b", b"/srv/hr/a-/", b"/srv/hr/a0", b"/srv/hr/A"), FILE % b"rw-")
         self.take({**TREE, **beside, b"/srv/hr/a/": FOLDER % b"r-x", b"/srv/hr/a/in": FILE % b"rw-", b"/srv/hr/a/a/": FOLDER % b"r-x"})
-        self.assertEqual(self.broken(b"never xaver read srv/hr/a/"), [b"xaver 3 srv/hr/a"])
+        self.assertEqual(self.broken(b"never xaver read srv/hr/a/"), [b"xaver 3 /srv/hr/a"])
         self.assertEqual(self.broken(b"always xaver read srv/hr/a/"), [])
         for name in (b"a!", b"a b", b"a-", b"a0", b"A"):
-            self.assertEqual(self.broken(b"never xaver read 'srv/hr/%s'" % name), [b"xaver 1 srv/hr/" + name])
+            self.assertEqual(self.broken(b"never xaver read 'srv/hr/%s'" % name), [b"xaver 1 /srv/hr/" + name])
 
     def test_everybody_are_people_and_others(self) -> None:
         self.take({})  # What is in srv/hr is closed to all but hr.
-        self.assertEqual(self.broken(b"never everybody read /")[:1], [b"everybody else 2 ."])
+        self.assertEqual(self.broken(b"never everybody read /")[:1], [b"everybody else 2 /"])
         self.assertEqual(self.broken(b"never everybody enter srv/"), [
-            b"everybody else 1 srv", b"anna 2 srv", b"bert 2 srv", b"carl 1 srv", b"xaver 1 srv"])
-        self.assertEqual(self.broken(b"never people read /"), [b"anna 4 .", b"bert 4 .", b"carl 2 .", b"xaver 2 ."])
+            b"everybody else 1 /srv", b"anna 2 /srv", b"bert 2 /srv", b"carl 1 /srv", b"xaver 1 /srv"])
+        self.assertEqual(self.broken(b"never people read /"), [b"anna 4 /", b"bert 4 /", b"carl 2 /", b"xaver 2 /"])
         self.assertEqual(self.broken(b"never others read srv/hr/"), [])
-        self.assertEqual(self.broken(b"never everybody read srv/hr/"), [b"anna 2 srv/hr", b"bert 2 srv/hr"])
+        self.assertEqual(self.broken(b"never everybody read srv/hr/"), [b"anna 2 /srv/hr", b"bert 2 /srv/hr"])
         self.assertEqual(self.broken(b"only everybody read /", "--quiet"), [])
-        self.assertEqual(self.broken(b"only people read /", "--quiet"), [b"everybody else 2 ."])
+        self.assertEqual(self.broken(b"only people read /", "--quiet"), [b"everybody else 2 /"])
         self.take(TREE)
-        self.assertEqual(self.broken(b"always everybody enter srv/hr/"), [b"xaver 2 srv/hr/cases/full"])
+        self.assertEqual(self.broken(b"always everybody enter srv/hr/"), [b"xaver 2 /srv/hr/cases/full"])
 
     def test_who_else_may(self) -> None:
         self.assertIn(b"        who else may: everybody else, anna, bert, xaver\n", self.check(b"never carl enter srv/hr/\n").out)
@@ -116,14 +116,14 @@ class Forms(Checks):
 
     def test_write_in_a_directory_takes_search(self) -> None:
         self.assertEqual(self.broken(b"never xaver write srv/hr/tools/"), [])
-        self.assertEqual(self.broken(b"always xaver write srv/hr/tools/"), [b"xaver 1 srv/hr/tools"])
+        self.assertEqual(self.broken(b"always xaver write srv/hr/tools/"), [b"xaver 1 /srv/hr/tools"])
 
     def test_enter_is_of_directories(self) -> None:
         self.assertEqual(self.broken(b"always anna enter srv/hr/"), [])
-        self.assertEqual(self.broken(b"always anna enter srv/hr/cases/one"), [b"anna 1 srv/hr/cases/one"])
+        self.assertEqual(self.broken(b"always anna enter srv/hr/cases/one"), [b"anna 1 /srv/hr/cases/one"])
 
     def test_file_alone(self) -> None:
-        self.assertEqual(self.broken(b"never xaver read srv/hr/cases/full/", "--file-alone"), [b"xaver 1 srv/hr/cases/full/three"])
+        self.assertEqual(self.broken(b"never xaver read srv/hr/cases/full/", "--file-alone"), [b"xaver 1 /srv/hr/cases/full/three"])
 
     def test_who_counts(self) -> None:
         self.take({b"/srv/hr/": FOLDER % b"r-x", b"/srv/hr/x": FILE.replace(b"1009", b"1") % b"rw-"})
@@ -131,9 +131,9 @@ class Forms(Checks):
         self.expect(done, 0, b"small (of srva, 2026-11-27T03:10:00Z): 1 rule holds\n",
                     b"facl-check: 1 system account not shown (daemon); --all-users shows it\n")
         self.expect(self.check(b"only @hr xaver read srv/hr/\n", "--quiet"), 0, b"")
-        self.assertEqual(self.broken(b"only @hr xaver read srv/hr/", "--all-users"), [b"daemon 1 srv/hr/x"])
-        self.assertEqual(self.broken(b"never daemon read srv/hr/"), [b"daemon 1 srv/hr/x"])
-        self.assertEqual(self.broken(b"never root write srv/hr/", "--with-root"), [b"root 1 srv/hr"])
+        self.assertEqual(self.broken(b"only @hr xaver read srv/hr/", "--all-users"), [b"daemon 1 /srv/hr/x"])
+        self.assertEqual(self.broken(b"never daemon read srv/hr/"), [b"daemon 1 /srv/hr/x"])
+        self.assertEqual(self.broken(b"never root write srv/hr/", "--with-root"), [b"root 1 /srv/hr"])
         self.expect(self.check(b"never root write srv/hr/\n"), 2, b"", b"facl-check: rules, line 1: word 2: a user of the uid 0, to "
                     b"whom the kernel grants nearly everything: leave it out, or give --with-root to judge it as any other user\n")
 
@@ -144,16 +144,16 @@ class Report(Checks):
     def test_report(self) -> None:
         wanted = b"""\
 rules, line 1: never xaver read srv/hr/cases/
-    xaver may read 2 files, first: srv/hr/cases/one, srv/hr/cases/two
-        by  .: other::r-x
-            srv: other::r-x
-            srv/hr: user:xaver:r-x
-            srv/hr/cases: user:xaver:--x
-            srv/hr/cases/one: user:xaver:r--
+    xaver may read 2 files, first: /srv/hr/cases/one, /srv/hr/cases/two
+        by  /: other::r-x
+            /srv: other::r-x
+            /srv/hr: user:xaver:r-x
+            /srv/hr/cases: user:xaver:--x
+            /srv/hr/cases/one: user:xaver:r--
         who else may: anna, bert
 rules, line 2: always @hr write srv/hr/cases/
-    bert may not write 1 file of 5, first: srv/hr/cases/two
-        by  srv/hr/cases/two: group::rw- (effective r--)
+    bert may not write 1 file of 5, first: /srv/hr/cases/two
+        by  /srv/hr/cases/two: group::rw- (effective r--)
         who may: anna
 small (of srva, 2026-11-27T03:10:00Z): 2 of 3 rules do not hold
 """
@@ -196,10 +196,10 @@ class Digits(Checks):
                   group=GROUP + b"staff:x:2003:anna\n2003:x:500:carl\nnone:x:2004:\n")
 
     def test_users(self) -> None:
-        self.assertEqual(self.broken(b"never '2024' read srv/hr/cases/one"), [b"2024 1 srv/hr/cases/one"])
+        self.assertEqual(self.broken(b"never '2024' read srv/hr/cases/one"), [b"2024 1 /srv/hr/cases/one"])
         self.assertEqual(self.broken(b"never 2024 mara read srv/hr/cases/one"), [])
-        self.assertEqual(self.broken(b"only anna bert mara read srv/hr/cases/one"), [b"2024 1 srv/hr/cases/one"])
-        self.assertIn(b"by  .: other::r-x", self.check(b"never '2024' read srv/hr/cases/one\n").out)
+        self.assertEqual(self.broken(b"only anna bert mara read srv/hr/cases/one"), [b"2024 1 /srv/hr/cases/one"])
+        self.assertIn(b"by  /: other::r-x", self.check(b"never '2024' read srv/hr/cases/one\n").out)
 
     def test_a_user_whom_no_question_names(self) -> None:
         self.take(TREE, passwd=PASSWD + b"2024:x:1009:1009::/:\n")
@@ -209,10 +209,10 @@ class Digits(Checks):
     def test_rows_of_one_id(self) -> None:
         self.take(TREE, group=GROUP + b"more:x:2001:carl\n")
         for name in (b"hr", b"more", b"2001"):
-            self.assertEqual(self.broken(b"never @%s read srv/hr/cases/one" % name), [b"%s 1 srv/hr/cases/one" % it for it in (b"anna", b"bert", b"carl")])
+            self.assertEqual(self.broken(b"never @%s read srv/hr/cases/one" % name), [b"%s 1 /srv/hr/cases/one" % it for it in (b"anna", b"bert", b"carl")])
 
     def test_groups(self) -> None:
-        self.assertEqual(self.broken(b"never @2003 read srv/hr/cases/two"), [b"anna 1 srv/hr/cases/two"])
+        self.assertEqual(self.broken(b"never @2003 read srv/hr/cases/two"), [b"anna 1 /srv/hr/cases/two"])
         self.assertEqual(self.broken(b"never @'2003' read srv/hr/cases/two"), [])
         self.expect(self.check(b"never @none read srv/hr/\n", "--quiet"), 0, b"",
                     b"facl-check: warning: rules, line 1: word 2: a group that has no members in the snapshot\n")
@@ -228,7 +228,7 @@ class Comments(Checks):
     def test_a_hash_in_a_name(self) -> None:
         self.take({**TREE, b"/srv/hr/C#": FILE % b"rw-", b"/srv/hr/C": FILE % b"---"})
         for rule in (b"never anna read srv/hr/C# # it's", b"never anna read 'srv/hr/C#' # it's", b"never anna read srv/hr/C# # it's # so"):
-            self.assertEqual(self.broken(rule), [b"anna 1 srv/hr/C#"], rule)
+            self.assertEqual(self.broken(rule), [b"anna 1 /srv/hr/C#"], rule)
         self.assertIn(b"a single quote is open", self.check(b"never anna read srv/hr/C#it's\n").messages)
 
     def test_a_file_that_begins_with_a_hyphen(self) -> None:
@@ -279,18 +279,18 @@ class Written(Checks):
         self.assertEqual((done.status, done.messages), (0, b""))
         lines = [line for line in done.out.splitlines() if line and not line.startswith(b"#")]
         self.assertEqual(lines[:6], [
-            b"never others read srv/hr/", b"only @hr xaver read srv/hr/", b"always @hr read srv/hr/",
-            b"never others write srv/hr/", b"only @hr write srv/hr/", b"always anna write srv/hr/"])
-        self.assertIn(b"always @hr write srv/hr/cases/one", lines)
+            b"never others read /srv/hr/", b"only @hr xaver read /srv/hr/", b"always @hr read /srv/hr/",
+            b"never others write /srv/hr/", b"only @hr write /srv/hr/", b"always anna write /srv/hr/"])
+        self.assertIn(b"always @hr write /srv/hr/cases/one", lines)
         self.assertEqual(self.rows(done.out), [])
 
     def test_a_user_named_as_a_word(self) -> None:
         for word in (b"others", b"people", b"everybody"):
             self.take(TREE, passwd=PASSWD.replace(b"xaver:", word + b":"))
             done = self.run_command("facl-check", ["--write", "small", "srv/hr"])
-            self.assertIn(b"only @hr '%s' read srv/hr/\n" % word, done.out)
+            self.assertIn(b"only @hr '%s' read /srv/hr/\n" % word, done.out)
             self.assertEqual(self.rows(done.out), [])
-            self.assertEqual(self.broken(b"never '%s' read srv/hr/" % word), [word + b" 3 srv/hr"])
+            self.assertEqual(self.broken(b"never '%s' read srv/hr/" % word), [word + b" 3 /srv/hr"])
 
     def test_odd_names(self) -> None:
         passwd = PASSWD.replace(b"xaver:", b"others:").replace(b"bert:", b"@hr:").replace(b"carl:", b"o'x \x1b[1m:")
@@ -310,7 +310,7 @@ class Written(Checks):
 
     def test_by_default_the_folders_of_the_snapshot(self) -> None:
         done = self.run_command("facl-check", ["--write", "small"])
-        self.assertIn(b"\n# srv/hr/\n", done.out)
+        self.assertIn(b"\n# /srv/hr/\n", done.out)
         self.assertEqual(self.run_command("facl-check", ["--write", "--json", "small"]).status, 2)
 
     def test_where_no_rule_holds(self) -> None:
@@ -318,11 +318,19 @@ class Written(Checks):
         self.take({b"/srv/hr/": base + b"rwx\n", b"/srv/hr/pay": base + b"---\n"})
         done = self.run_command("facl-check", ["--write", "small"])
         self.assertEqual((done.status, done.messages), (0, b""))
-        self.assertTrue(done.out.endswith(b"\n\n# srv/hr/\n# none: others may read some of these files, and write some, and no user "
+        self.assertTrue(done.out.endswith(b"\n\n# /srv/hr/\n# none: others may read some of these files, and write some, and no user "
                                           b"may read all or write all\n"), done.out)
 
+    def test_a_relative_dump(self) -> None:
+        """Its paths are as they are there, in rules and in what is said of them."""
+        self.write("small/dump", self.read("small/dump").replace(b"# file: /\n", b"# file: x\n").replace(b"# file: /", b"# file: "))
+        self.write("small/meta", b"")
+        self.assertIn(b"\n# srv/hr/cases/\n", self.run_command("facl-check", ["--write", "small", "srv/hr/cases"]).out)
+        self.assertIn(b"    xaver may read 2 files, first: srv/hr/cases/one, srv/hr/cases/two\n        by  srv: other::r-x\n",
+                      self.check(Report.RULES).out)
+
     def test_a_name_that_a_shell_would_run_is_quoted(self) -> None:
-        for name, word in ((b"$(id)", b"'srv/hr/$(id)'"), (b"`id`", b"'srv/hr/`id`'"), (b"a;b", b"'srv/hr/a;b'"), (b"a-b.c", b"srv/hr/a-b.c")):
+        for name, word in ((b"$(id)", b"'/srv/hr/$(id)'"), (b"`id`", b"'/srv/hr/`id`'"), (b"a;b", b"'/srv/hr/a;b'"), (b"a-b.c", b"/srv/hr/a-b.c")):
             self.take({b"/srv/hr/" + name: FILE % b"rw-"})
             done = self.run_command("facl-check", ["--write", "small", os.fsdecode(b"srv/hr/" + name)])
             self.assertIn(b"\nnever others read " + word + b"\n", done.out)

@@ -53,12 +53,12 @@ facl on HOST, DAY: TOP/tree
 TOP/kept/DAY.2 (of HOST, TIME): 2 files at or below TOP/tree
 high    writable-by-everybody   1 file
         everybody else, whom no ACL names, can write it along its path
-        first: PATH/tree/file
+        first: TOP/tree/file
         for facl plan: setfacl -n -m o::r-- TOP/tree/file
 middle  readable-by-everybody   2 files
         everybody else, whom no ACL names, can read it along its path
-        first: PATH/tree
-        then:  PATH/tree/file
+        first: TOP/tree
+        then:  TOP/tree/file
         for facl plan: setfacl -n -m o::--x TOP/tree
 findings: 1 high, 1 middle
 all files of one: facl audit --list writable-by-everybody -s TOP/kept/DAY.2
@@ -66,8 +66,8 @@ all lines of one: facl audit fix writable-by-everybody -s TOP/kept/DAY.2 >edits;
 
 == rules that do not hold (facl check)
 TOP/rules, line 1: never others write TOP/tree/
-    everybody else may write 1 file, first: PATH/tree/file
-        by  .: other::r-x
+    everybody else may write 1 file, first: TOP/tree/file
+        by  /: other::r-x
             BLOCKS
         who else may: anna
 TOP/kept/DAY.2 (of HOST, TIME): 1 of 1 rule does not hold
@@ -125,7 +125,7 @@ class Daily(Case):
 
     def plain(self, text: bytes) -> str:
         """A text with its parts that are others each day."""
-        for word, name in ((self.folder, "TOP"), (self.folder.strip("/"), "PATH"), (os.uname().nodename, "HOST"),
+        for word, name in ((self.folder, "TOP"), (os.uname().nodename, "HOST"),
                            (time.strftime("%Y-%m-%d") + "T", "DAYT"), (time.strftime("%Y-%m-%d"), "DAY")):
             text = text.replace(word.encode(), name.encode())
         found = re.sub(r"DAYT[\d:]+Z", "TIME", text.decode())
@@ -218,7 +218,7 @@ class InParts(Daily):
         self.assertEqual((done.status, done.messages), (1, b""))
         self.assertEqual(done.out.count(b"== "), 2, done.out)
         self.assertIn(b"files: 1 with another owner, group, flags or ACL, 1 new\n", done.out)
-        self.assertIn(b"    everybody else may write 1 file, first: %s/e\n" % self.tree.strip("/").encode(), done.out)
+        self.assertIn(b"    everybody else may write 1 file, first: %s/e\n" % self.tree.encode(), done.out)
 
 
 class Units(Daily):

@@ -110,7 +110,7 @@ class EmptyMask(SmallTree):
             self.assertNotIn(b"mask-cuts-entry", found)
         self.write("edits", edit)
         self.assertEqual(self.run_command("facl-plan", ["small", "edits"]).out.splitlines()[1:3], [
-            b"carl   r-- -> none    1 file    first: srv/hr/note", b"xaver  r-- -> none    1 file    first: srv/hr/note"])
+            b"carl   r-- -> none    1 file    first: /srv/hr/note", b"xaver  r-- -> none    1 file    first: /srv/hr/note"])
         self.assertIn(b"; nobody may do anything else than before", self.run_command("facl-plan", ["--acl5", "small", "edits"]).out)
         # An entry that says what others have does what it says; where others have nothing, the mask cuts the others.
         self.take_list(LIST.replace(b"user:1002:rw-\nuser:1003:rwx\nuser:1009:---", b"user:1003:r--"))

@@ -36,23 +36,23 @@ class Lines(Case):
 
     def test_a_named_user(self) -> None:
         done = self.plan(b"setfacl -n -m u:guest:r srv/share/notes srv/share/one\n")
-        line = b"guest  no gain        3 files   srv/share grants no search permission (other::---); add to the edits: setfacl -n -m u:guest:x /srv/share\n"
+        line = b"guest  no gain        3 files   /srv/share grants no search permission (other::---); add to the edits: setfacl -n -m u:guest:x /srv/share\n"
         self.expect(done, 0, line + b"3 files change owner, group, flags or ACL" + NOBODY + WRITTEN)
 
     def test_lines_of_a_user_are_together(self) -> None:
         done = self.plan(b"setfacl -n -m u:ben:r,u:guest:r,u:mara:r srv/share/drafts/logo.svg\nchmod 750 srv\nsetfacl -m u:mara:x srv\n")
         self.expect(done, 0,
-                    b"everybody else  r-x -> none    1 file    first: srv\n"
-                    b"ines            r-x -> none    1 file    first: srv\n"
-                    b"ines            rw- -> none    9 files   first: srv/share/-x\n"
-                    b"ines            rwx -> none    1 file    first: srv/share\n"
-                    b"ben             r-- -> none    9 files   first: srv/share/-x\n"
-                    b"ben             r-x -> none    2 files   first: srv\n"
-                    b"ben             no gain        1 file    srv and 1 directory below it grant no search permission (other::---); "
+                    b"everybody else  r-x -> none    1 file    first: /srv\n"
+                    b"ines            r-x -> none    1 file    first: /srv\n"
+                    b"ines            rw- -> none    9 files   first: /srv/share/-x\n"
+                    b"ines            rwx -> none    1 file    first: /srv/share\n"
+                    b"ben             r-- -> none    9 files   first: /srv/share/-x\n"
+                    b"ben             r-x -> none    2 files   first: /srv\n"
+                    b"ben             no gain        1 file    /srv and 1 directory below it grant no search permission (other::---); "
                     b"add to the edits: setfacl -n -m u:ben:x /srv /srv/share/drafts\n"
-                    b"mara            r-x -> --x     1 file    first: srv\n"
-                    b"guest           r-x -> none    1 file    first: srv\n"
-                    b"guest           no gain        1 file    srv and 2 directories below it grant no search permission (other::---); "
+                    b"mara            r-x -> --x     1 file    first: /srv\n"
+                    b"guest           r-x -> none    1 file    first: /srv\n"
+                    b"guest           no gain        1 file    /srv and 2 directories below it grant no search permission (other::---); "
                     b"add to the edits: setfacl -n -m u:guest:x /srv /srv/share /srv/share/drafts\n"
                     b"2 files change owner, group, flags or ACL\n" + WRITTEN)
 
@@ -61,7 +61,7 @@ class Lines(Case):
         self.dump_with(b"# file: /srv/share/\n# owner: 1001\n# group: 100\nuser::rwx\n",
                        b"# file: /srv/share/\n# owner: 1001\n# group: 100\nuser::rwx\nuser:1009:rwx\nmask::r--\n")
         done = self.plan(b"setfacl -m u:guest:r srv/share/one\n")
-        self.assertIn(b"srv/share grants no search permission (user:guest:rwx, effective r--); add to the edits: setfacl -n -m m::rx /srv/share\n", done.out)
+        self.assertIn(b"/srv/share grants no search permission (user:guest:rwx, effective r--); add to the edits: setfacl -n -m m::rx /srv/share\n", done.out)
 
     def test_an_empty_mask(self) -> None:
         # Others decide by now, and the user's own entry once the mask has search.
@@ -70,15 +70,15 @@ class Lines(Case):
             shutil.copy(os.path.join(HERE, "snapshots", "share", "dump"), self.path("before/dump"))
             self.dump_with(head, head + b"user:1009:%s\nmask::---\n" % perms)
             line = b"setfacl -n -m %s /srv/share\n" % edit
-            self.assertIn(b"guest  no gain        2 files   srv/share grants no search permission (other::---); add to the edits: " + line, self.plan(script).out)
+            self.assertIn(b"guest  no gain        2 files   /srv/share grants no search permission (other::---); add to the edits: " + line, self.plan(script).out)
             self.assertIn(b"(user:guest:%s, effective ---); add to the edits: %s" % (perms, line), self.plan(script, "--acl5").out)
-            self.assertIn(b"guest  none -> r--    2 files   first: srv/share/one\n", self.plan(script + line).out)
+            self.assertIn(b"guest  none -> r--    2 files   first: /srv/share/one\n", self.plan(script + line).out)
 
     def test_a_group(self) -> None:
         # The entry of the group, for each of its users; ben is of the owning group too, which has search.
         self.write("before/group", self.read("before/group").replace(b"audit:x:400:ben", b"audit:x:400:ben,guest,mara"))
         done = self.plan(b"setfacl -n -m g:audit:rw srv/share/one\n")
-        rest = b"  no gain        2 files   srv/share grants no search permission (other::---); add to the edits: setfacl -n -m g:audit:x /srv/share\n"
+        rest = b"  no gain        2 files   /srv/share grants no search permission (other::---); add to the edits: setfacl -n -m g:audit:x /srv/share\n"
         self.assertEqual(done.out.splitlines(True)[:-2], [b"mara " + rest, b"guest" + rest])
 
     def test_rights_that_the_user_has_stay(self) -> None:
@@ -86,15 +86,15 @@ class Lines(Case):
                        b"# file: /srv/share/\n# owner: 1001\n# group: 100\nuser::rw-\ngroup::--x\nother::r--\n")
         done = self.plan(b"setfacl -n -m u:guest:r srv/share/-x\nsetfacl -n -m u:ines:r srv/share/drafts/logo.svg\n")
         self.assertEqual(done.out.splitlines(True)[:-2], [
-            b"ines   no gain        1 file    srv/share grants no search permission (user::rw-), and 1 directory below it grants none; "
+            b"ines   no gain        1 file    /srv/share grants no search permission (user::rw-), and 1 directory below it grants none; "
             b"add to the edits: setfacl -n -m u::rwx /srv/share\n",
-            b"guest  no gain        1 file    srv/share grants no search permission (other::r--); add to the edits: setfacl -n -m u:guest:rx,m::rx /srv/share\n",
+            b"guest  no gain        1 file    /srv/share grants no search permission (other::r--); add to the edits: setfacl -n -m u:guest:rx,m::rx /srv/share\n",
         ])
 
     def test_a_membership(self) -> None:
         self.dump_with(b"user:1003:rw-\t\t\t#effective:r--\n", b"user:1003:rw-\t\t\t#effective:r--\ngroup:400:r--\n")
         done = self.plan(b"gpasswd -a guest audit\n")
-        self.assertIn(b"guest  no gain        1 file    srv/share grants no search permission (other::---); add to the edits: setfacl -n -m u:guest:x /srv/share\n",
+        self.assertIn(b"guest  no gain        1 file    /srv/share grants no search permission (other::---); add to the edits: setfacl -n -m u:guest:x /srv/share\n",
                       done.out)
 
     def test_json_and_other_views(self) -> None:
@@ -107,7 +107,7 @@ class Lines(Case):
         self.assertIn(b"guest  no gain  ", self.plan(script, "--full").out)
         self.assertEqual(self.plan(script, "--reach").out, self.plan(script).out)
         done = self.plan(script, "--file-alone")
-        self.assertTrue(done.out.startswith(b"guest  none -> r--    1 file    first: srv/share/notes\n1 file changes"), done.out)
+        self.assertTrue(done.out.startswith(b"guest  none -> r--    1 file    first: /srv/share/notes\n1 file changes"), done.out)
         self.assertEqual(json.loads(self.plan(script, "--file-alone", "--json").out)["no_gain"], [])
 
     def test_names_are_words_of_a_script(self) -> None:
@@ -138,7 +138,7 @@ class Lines(Case):
         body = b"# owner: 1001\n# group: 100\nuser::rwx\ngroup::r-x\nother::---\n\n"
         self.write("before/dump", self.read("before/dump") + b"".join(b"# file: /" + path + b"/\n" + body for path in chain))
         done = self.plan(b"setfacl -n -m u:guest:r " + chain[-1] + b"\n")
-        self.assertTrue(done.out.startswith(b"guest  no gain        1 file    srv/share grants no search permission (other::---), and 98 directories "
+        self.assertTrue(done.out.startswith(b"guest  no gain        1 file    /srv/share grants no search permission (other::---), and 98 directories "
                                             b"below it grant none; add to the edits: setfacl -n -m u:guest:x /srv/share\n"), done.out)
 
 

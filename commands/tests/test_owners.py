@@ -16,7 +16,7 @@ from common import COMMANDS, Case, outside_the_gate
 
 sys.path.insert(0, COMMANDS)
 
-from facl_commands.base.names import path_order, script_word, write_name  # noqa: E402
+from facl_commands.base.names import live_name, path_order, script_word, write_name  # noqa: E402
 from facl_commands.base.programs import LINUX  # noqa: E402
 from facl_commands.model.people import People  # noqa: E402
 from facl_commands.model.records import Files, read_listing  # noqa: E402
@@ -204,7 +204,7 @@ class Left(Case):
 
     def test_owned_and_named(self) -> None:
         (mara,) = self.left(b"userdel mara")
-        self.assertEqual(chown.notes(mara), [
+        self.assertEqual(chown.notes(mara, live_name), [
             b"mara is removed and still owns 2 files, first: /srv/share/drafts",
             b"mara is removed and still named in the ACLs of 1 file, first: /srv/share/notes"])
         self.assertEqual(chown.comments(mara), [
@@ -222,7 +222,7 @@ class Left(Case):
     def test_a_name_that_would_end_the_comment(self) -> None:
         (guest,) = self.left(b"creat -d --user=guest --mode=0755 'srv/share/x\\012rm y'\nuserdel guest")
         self.assertEqual(chown.comments(guest)[1], b"# chown -R -h --from=1009 NEWOWNER -- /srv/share")
-        self.assertEqual(chown.notes(guest), [b"guest is removed and still owns 1 file, first: /srv/share/x\\012rm y"])
+        self.assertEqual(chown.notes(guest, live_name), [b"guest is removed and still owns 1 file, first: /srv/share/x\\012rm y"])
 
 
 @outside_the_gate

@@ -40,8 +40,8 @@ class Reports(Case):
     def test_file_alone(self) -> None:
         # The mask is recalculated, so that mara gets what her entry has.
         done = self.plan(b"setfacl -m u:guest:r srv/share/notes\n", "--file-alone")
-        self.expect(done, 0, b"mara   r-- -> rw-     1 file    first: srv/share/notes\n"
-                             b"guest  none -> r--    1 file    first: srv/share/notes\n" + ONE_FILE + b"\n" + WRITTEN)
+        self.expect(done, 0, b"mara   r-- -> rw-     1 file    first: /srv/share/notes\n"
+                             b"guest  none -> r--    1 file    first: /srv/share/notes\n" + ONE_FILE + b"\n" + WRITTEN)
         self.assertEqual(self.read("before.plan/old"), OLD_NOTES)
         self.assertEqual(self.read("before.plan/new"), NEW_NOTES)
         self.assertEqual(self.read("before.plan/edits"), b"setfacl -m u:guest:r srv/share/notes\n")
@@ -51,19 +51,19 @@ class Reports(Case):
 
     def test_full(self) -> None:
         done = self.plan(b"setfacl -m u:guest:r srv/share/notes", "--full", "--file-alone")
-        self.expect(done, 0, b"mara\tr--\t->\trw-\tsrv/share/notes\nguest\tnone\t->\tr--\tsrv/share/notes\n"
+        self.expect(done, 0, b"mara\tr--\t->\trw-\t/srv/share/notes\nguest\tnone\t->\tr--\t/srv/share/notes\n"
                     + ONE_FILE + b"\n" + WRITTEN)
 
     def test_kinds_are_counted(self) -> None:
         script = b"chmod 644 srv/share/it\\047s srv/share/-x\nchmod 666 '/srv/share/plan 2 '\n"
         done = self.plan(script, "--file-alone", "--with-root")
         out = b"".join(
-            b"%-14s  none -> %s    %s  first: srv/share/%s\n" % row
+            b"%-14s  none -> %s    %s  first: /srv/share/%s\n" % row
             for user in (b"everybody else", b"root", b"mara", b"guest")
             for row in ((user, b"r--", b"2 files ", b"-x"), (user, b"rw-", b"1 file  ", b"plan 2 "))
         )
         # ben is of the group.
-        ben = b"%-14s  r-- -> rw-     1 file    first: srv/share/plan 2 \n" % b"ben"
+        ben = b"%-14s  r-- -> rw-     1 file    first: /srv/share/plan 2 \n" % b"ben"
         at = out.index(b"mara")
         self.expect(done, 0, out[:at] + ben + out[at:] + b"3 files change owner, group, flags or ACL\n" + WRITTEN)
 
@@ -109,25 +109,25 @@ class Reports(Case):
     def test_along_paths(self) -> None:
         # Neither may search srv/share; mara is not named by the line.
         done = self.plan(b"setfacl -m u:guest:r srv/share/notes\n")
-        self.expect(done, 0, b"guest  no gain        1 file    srv/share grants no search permission (other::---); add to the edits: setfacl -n -m u:guest:x /srv/share\n"
+        self.expect(done, 0, b"guest  no gain        1 file    /srv/share grants no search permission (other::---); add to the edits: setfacl -n -m u:guest:x /srv/share\n"
                     + ONE_FILE + b"; nobody may do anything else than before\n" + WRITTEN)
         done = self.plan(b"setfacl -m u:guest:r srv/share/notes\nsetfacl -m u:guest:x srv/share\n")
-        self.expect(done, 0, b"guest  none -> --x    1 file    first: srv/share\n"
-                             b"guest  none -> r--    1 file    first: srv/share/notes\n"
+        self.expect(done, 0, b"guest  none -> --x    1 file    first: /srv/share\n"
+                             b"guest  none -> r--    1 file    first: /srv/share/notes\n"
                              b"2 files change owner, group, flags or ACL\n" + WRITTEN)
 
     def test_superusers(self) -> None:
         self.write("before/passwd", self.read("before/passwd") + b"toor:x:0:0::/:/bin/sh\n")
         script = b"chmod 604 srv/share/one\nchmod 751 srv/share\n"
         others = [b"%-14s  none -> %s\n" % (user, what) for user in (b"everybody else", b"guest")
-                  for what in (b"--x    1 file    first: srv/share", b"r--    2 files   first: srv/share/one")]
+                  for what in (b"--x    1 file    first: /srv/share", b"r--    2 files   first: /srv/share/one")]
         done = self.plan(script)
         self.assertEqual([line for line in done.out.splitlines(True) if line[:5] in (b"root ", b"toor ", b"guest", b"every")], others)
         self.assertIn(b"3 files change owner, group, flags or ACL; root and toor not shown, to whom Linux grants nearly "
                       b"everything; --with-root shows root and toor\n", done.out)
         self.assertEqual(json.loads(self.plan(script, "--json").out)["left_out"], ["root", "toor"])
         done = self.plan(script, "--with-root")
-        self.assertIn(b"%-14s  none -> r--    2 files   first: srv/share/one\n" % b"root", done.out)
+        self.assertIn(b"%-14s  none -> r--    2 files   first: /srv/share/one\n" % b"root", done.out)
         self.assertNotIn(b"left out", done.out)
         # Where nothing changes for root there is no word on it.
         self.assertNotIn(b"left out", self.plan(b"setfacl -m u:guest:r srv/share/notes\n").out)
@@ -148,7 +148,7 @@ class Reports(Case):
                     session.ask(script)
                     lines = session.ask_accepted(b"changes " + option.encode()).lines()
                     printed = [re.sub(b"^nemo ", b"everybody else ", line) for line in lines]
-                found = [b" ".join([user, word, b",".join(it for it in REQUESTS if it in more - less), file])
+                found = [b" ".join([user, word, b",".join(it for it in REQUESTS if it in more - less), file[1:] or b"."])
                          for user, old, _, new, file in rows
                          for word, more, less in ((b"gains", requests_of(new), requests_of(old)), (b"loses", requests_of(old), requests_of(new)))
                          if more - less]
@@ -161,7 +161,7 @@ class Reports(Case):
 
     def test_two_requests_that_are_not_granted_together(self) -> None:
         done = self.plan(b"chmod 660 srv/share/one\nsetfacl -m g::r,g:audit:w srv/share/one\n", "--full")
-        self.assertIn(b"ben\tr--\t->\t-w- r--\tsrv/share/one\n", done.out)
+        self.assertIn(b"ben\tr--\t->\t-w- r--\t/srv/share/one\n", done.out)
 
     def test_questions_are_answered(self) -> None:
         done = self.plan(b"who r srv/share/notes\n# why\nsetfacl -m u:guest:r srv/share/notes\nmay guest r\nwho x srv/share/one\n"
@@ -203,7 +203,7 @@ class Reports(Case):
         report = json.loads(done.out)
         self.assertEqual(done.out.decode(), json.dumps(report, indent=2) + "\n")
         self.assertEqual([[it["user"], it["from"], "->", it["to"], it["path"]] for it in report["changes"]],
-                         [[*row[:-1], "/" + row[-1].lstrip(".")] for row in rows])
+                         rows)
         self.assertGreater(len(rows), 20)
 
     def test_the_root_in_json(self) -> None:
@@ -222,44 +222,44 @@ class EverybodyElse(Case):
 
     SCRIPT = b"chmod 604 srv/share/one\nchmod 751 srv/share\n"
     # ben is of the group, which loses r; mara is the owner of drafts and its file, and named in the list of notes.
-    CHANGES = (("everybody else", "none", "--x", 1, "srv/share"), ("everybody else", "none", "r--", 2, "srv/share/one"),
-               ("ben", "r--", "none", 2, "srv/share/one"), ("mara", "none", "--x", 1, "srv/share"), ("mara", "none", "r--", 3, "srv/share/notes"),
-               ("mara", "none", "rw-", 1, "srv/share/drafts/logo.svg"), ("mara", "none", "rwx", 1, "srv/share/drafts"),
-               ("guest", "none", "--x", 1, "srv/share"), ("guest", "none", "r--", 2, "srv/share/one"))
+    CHANGES = (("everybody else", "none", "--x", 1, "/srv/share"), ("everybody else", "none", "r--", 2, "/srv/share/one"),
+               ("ben", "r--", "none", 2, "/srv/share/one"), ("mara", "none", "--x", 1, "/srv/share"), ("mara", "none", "r--", 3, "/srv/share/notes"),
+               ("mara", "none", "rw-", 1, "/srv/share/drafts/logo.svg"), ("mara", "none", "rwx", 1, "/srv/share/drafts"),
+               ("guest", "none", "--x", 1, "/srv/share"), ("guest", "none", "r--", 2, "/srv/share/one"))
     SUMMARY = b"3 files change owner, group, flags or ACL; root not shown, to whom Linux grants nearly everything; --with-root shows root\n"
 
     def test_the_report(self) -> None:
         self.expect(self.plan(self.SCRIPT), 0, b"""\
-everybody else  none -> --x    1 file    first: srv/share
-everybody else  none -> r--    2 files   first: srv/share/one
-ben             r-- -> none    2 files   first: srv/share/one
-mara            none -> --x    1 file    first: srv/share
-mara            none -> r--    3 files   first: srv/share/notes
-mara            none -> rw-    1 file    first: srv/share/drafts/logo.svg
-mara            none -> rwx    1 file    first: srv/share/drafts
-guest           none -> --x    1 file    first: srv/share
-guest           none -> r--    2 files   first: srv/share/one
+everybody else  none -> --x    1 file    first: /srv/share
+everybody else  none -> r--    2 files   first: /srv/share/one
+ben             r-- -> none    2 files   first: /srv/share/one
+mara            none -> --x    1 file    first: /srv/share
+mara            none -> r--    3 files   first: /srv/share/notes
+mara            none -> rw-    1 file    first: /srv/share/drafts/logo.svg
+mara            none -> rwx    1 file    first: /srv/share/drafts
+guest           none -> --x    1 file    first: /srv/share
+guest           none -> r--    2 files   first: /srv/share/one
 """ + self.SUMMARY + WRITTEN)
         for name in os.listdir(self.path("before.plan")):
             self.assertNotIn(b"facl-everybody", self.read("before.plan/" + name), name)
 
     def test_json(self) -> None:
         report = json.loads(self.plan(self.SCRIPT, "--json").out)
-        self.assertEqual([tuple(it.values()) for it in report["changes"]], [(*row[:4], "/" + row[4]) for row in self.CHANGES])
+        self.assertEqual([tuple(it.values()) for it in report["changes"]], [*self.CHANGES])
         self.assertEqual((list(report)[:3], report["judge"], report["left_out"]), (["schema", "version", "judge"], "linux", ["root"]))
         self.assertEqual(json.loads(self.plan(self.SCRIPT, "--acl5", "--json").out)["judge"], "acl5")
 
     def test_each_file(self) -> None:
-        of_one = b"".join(row + b"\tsrv/share/%s\n" for row in (
+        of_one = b"".join(row + b"\t/srv/share/%s\n" for row in (
             b"everybody else\tnone\t->\tr--", b"ben\tr--\t->\tnone", b"mara\tnone\t->\tr--", b"guest\tnone\t->\tr--"))
         self.expect(self.plan(self.SCRIPT, "--full"), 0, (
-            b"everybody else\tnone\t->\t--x\tsrv/share\nmara\tnone\t->\t--x\tsrv/share\nguest\tnone\t->\t--x\tsrv/share\n"
-            b"mara\tnone\t->\trwx\tsrv/share/drafts\nmara\tnone\t->\trw-\tsrv/share/drafts/logo.svg\n"
-            b"mara\tnone\t->\tr--\tsrv/share/notes\n") + of_one.replace(b"%s", b"one") + of_one.replace(b"%s", b"two") + self.SUMMARY + WRITTEN)
+            b"everybody else\tnone\t->\t--x\t/srv/share\nmara\tnone\t->\t--x\t/srv/share\nguest\tnone\t->\t--x\t/srv/share\n"
+            b"mara\tnone\t->\trwx\t/srv/share/drafts\nmara\tnone\t->\trw-\t/srv/share/drafts/logo.svg\n"
+            b"mara\tnone\t->\tr--\t/srv/share/notes\n") + of_one.replace(b"%s", b"one") + of_one.replace(b"%s", b"two") + self.SUMMARY + WRITTEN)
 
     def test_losses(self) -> None:
         done = self.plan(b"chmod 750 srv/share srv\n")
-        self.assertTrue(done.out.startswith(b"everybody else  r-x -> none    1 file    first: srv\nines            r-x -> none"), done.out)
+        self.assertTrue(done.out.startswith(b"everybody else  r-x -> none    1 file    first: /srv\nines            r-x -> none"), done.out)
 
     def test_questions(self) -> None:
         script = b"who r srv\nchmod 751 srv/share\ncan --reach 'everybody else' srv/share\ngains\nwhy 'everybody else' srv/share\n"
@@ -274,7 +274,7 @@ guest           none -> r--    2 files   first: srv/share/one
         self.write("before/passwd", self.read("before/passwd") + b"everybody else:x:2001:100::/:\n")
         done = self.plan(b"can 'everybody else' srv/share/one\n" + self.SCRIPT)
         self.assertTrue(done.out.startswith(b"# edits, line 1: can 'everybody else' srv/share/one\nr--\n\neverybody else     none -> --x    1 file "))
-        self.assertIn(b"everybody\\040else  r-- -> none    2 files   first: srv/share/one\n", done.out)
+        self.assertIn(b"everybody\\040else  r-- -> none    2 files   first: /srv/share/one\n", done.out)
 
     def test_the_number_of_a_directory_service(self) -> None:
         beside = b"everybody else: users whom the snapshot does not have; it has 13 of a directory service\n"
@@ -358,7 +358,7 @@ class HardLinks(Case):
 
     def test_an_edit_is_of_all_names(self) -> None:
         done = self.plan(b"setfacl -m u:guest:r srv/share/two\n", "--file-alone")
-        self.expect(done, 0, b"guest  none -> r--    2 files   first: srv/share/one\n"
+        self.expect(done, 0, b"guest  none -> r--    2 files   first: /srv/share/one\n"
                              b"2 files change owner, group, flags or ACL\n" + WRITTEN)
         self.expect_both(b"user:1009:r--\n")
 
@@ -534,7 +534,7 @@ class Names(Case):
 
     def test_what_a_terminal_would_obey(self) -> None:
         name, word, seen = b"z\033[2J\xc2\x9b", b"'srv/share/z\\033[2J\\302\\233'", b"srv/share/z\\033[2J\\302\\233"
-        row = b"guest  none -> r--    1 file    first: %s\n" % seen
+        row = b"guest  none -> r--    1 file    first: /%s\n" % seen
         done = self.plan_with(name, b"who r %s\nsetfacl -m u:guest:r %s\n" % (word, word), "--file-alone")
         self.assertTrue(done.out.startswith(b"# edits, line 1: who r " + word + b"\nines\nben\n\n" + row), done.out)
         done = self.plan(b"getfacl -c %s\nmay ines w\nrm %s\n" % (word, word))
@@ -544,7 +544,7 @@ class Names(Case):
 
     def test_scripts_get_names_as_they_are(self) -> None:
         done = self.plan_with(b"z\033", b"setfacl -m u:guest:r 'srv/share/z\\033'\n", "--full", "--file-alone")
-        self.assertTrue(done.out.startswith(b"guest\tnone\t->\tr--\tsrv/share/z\033\n"), done.out)
+        self.assertTrue(done.out.startswith(b"guest\tnone\t->\tr--\t/srv/share/z\033\n"), done.out)
         report = json.loads(self.plan(self.read("edits"), "--json", "--file-alone").out)
         self.assertEqual(report["changes"][0]["path"], "/srv/share/z\033")
 
@@ -555,7 +555,7 @@ class Names(Case):
         self.assertEqual(subprocess.run(words, cwd=self.folder, stdout=its, check=False).returncode, 0)
         os.close(its)
         with open(own, "rb", buffering=0) as terminal:
-            self.assertTrue(terminal.read(1_000).startswith(b"guest\tnone\t->\tr--\tsrv/share/z\\033\r\n"))
+            self.assertTrue(terminal.read(1_000).startswith(b"guest\tnone\t->\tr--\t/srv/share/z\\033\r\n"))
 
     def test_odd_names(self) -> None:
         done = self.plan(b"chmod 600 'srv/share/a\\012b' 'srv/share/back\\\\slash' srv/share/-x 'srv/share/it\\047s' "
@@ -617,12 +617,12 @@ class Owners(Case):
         body = b"# owner: 1009\n# group: 400\n" + self.BODY.replace(b"r--", b"---")
         self.assertEqual(self.read("before.plan/new"), b"# file: /srv/share/-x\n# owner: 1001\n# group: 300\n" + self.BODY
                          + b"# file: /srv/share/one\n" + body + b"# file: /srv/share/two\n" + body)
-        self.assertIn(b"guest  none -> rw-    2 files   first: srv/share/one\n", done.out)
-        self.assertIn(b"guest  none -> r--    1 file    first: srv/share/-x\n", done.out)
+        self.assertIn(b"guest  none -> rw-    2 files   first: /srv/share/one\n", done.out)
+        self.assertIn(b"guest  none -> r--    1 file    first: /srv/share/-x\n", done.out)
 
     def test_along_paths(self) -> None:
         done = self.plan(b"chown -R guest srv/share/drafts\n")
-        self.assertIn(b"guest  no gain        2 files   srv/share grants no search permission (other::---); add to the edits: setfacl -n -m u:guest:x /srv/share\n",
+        self.assertIn(b"guest  no gain        2 files   /srv/share grants no search permission (other::---); add to the edits: setfacl -n -m u:guest:x /srv/share\n",
                       done.out)
 
     def test_refused(self) -> None:
@@ -694,7 +694,7 @@ class AnyDump(Case):
 
     def test_whole_names(self) -> None:
         done = self.plan_of(b"/srv/", b"setfacl -n -m u:guest:r srv/notes\n")
-        self.expect(done, 0, b"guest  none -> r--    1 file    first: srv/notes\n" + ONE_FILE + b"\n"
+        self.expect(done, 0, b"guest  none -> r--    1 file    first: /srv/notes\n" + ONE_FILE + b"\n"
                              b"wrote old.plan; next: facl apply old.plan\n", self.OPEN + b"\n")
         self.assertEqual(self.read("old.plan/new").count(b"# file: /srv/notes\n"), 1)
 

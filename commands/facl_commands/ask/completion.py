@@ -5,7 +5,7 @@ import bisect
 import re
 from typing import Callable, Iterator, List, NamedTuple, Optional, Tuple
 
-from ..base.names import read_path, shown, sorting_key
+from ..base.names import file_name, read_path, shown, sorting_key
 from ..model.people import rows_of
 from ..program.protocol import FILE_LINE
 from ..program.scripts import words_of
@@ -154,10 +154,11 @@ class Completer:
             yield quoted(head + slash + written(name) + "/" * is_directory, not is_directory) + " " * (not is_directory)
 
     def ending(self, name: bytes) -> List[bytes]:
-        """Recorded paths whose last components are these, at most three."""
-        end = b"\0" + sorting_key(name)
-        found = (key.replace(b"\0", b"/") for key in self.paths().keys if key.endswith(end))
-        return [path for _, path in zip(range(3), found)]
+        """The names of recorded files whose last components are these, at most three."""
+        keys = self.paths().keys
+        end, is_whole = b"\0" + sorting_key(name), keys[:1] == [b""]
+        found = (file_name(key.replace(b"\0", b"/"), is_whole) for key in keys if key.endswith(end))
+        return [name for _, name in zip(range(3), found)]
 
 
 def kind_of(words: List[bytes]) -> str:

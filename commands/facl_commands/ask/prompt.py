@@ -5,7 +5,7 @@ import gc
 from typing import Callable, Iterator, List, Optional, Sequence, Set
 
 from ..base.messages import Failure
-from ..base.names import read_path, shown, write_name
+from ..base.names import read_path, shown
 from ..model.everybody import ElseAnswers
 from ..model.marks import NO_MARKS, Marks
 from ..model.superuser import Superusers
@@ -161,7 +161,7 @@ class Prompt:
         if message == message_of(PROGRAM, UNKNOWN_TOOL) and not found:
             found = [b"The tools are listed by `help`."]
         path = read_path(lacking_file(message)) if lacks_file([message]) else b""
-        return found + ([b"There is " + shown(write_name(it)) for it in self.completer.ending(path)] if path else [])
+        return found + ([b"There is " + shown(it) for it in self.completer.ending(path)] if path else [])
 
     def follow(self, unit: Unit) -> None:
         """Keeps the paths that are completed up to date."""

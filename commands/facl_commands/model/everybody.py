@@ -16,7 +16,7 @@ from typing import Callable, Iterable, Iterator, List, NamedTuple, Optional, Set
 from ..base.accounts import LAST_ID
 from ..base.folders import Folder, folder_of
 from ..base.messages import Failure
-from ..base.names import script_word, write_user
+from ..base.names import file_name, script_word, write_user
 from ..base.user_tools import User
 from ..program.protocol import ALL_OF, FREE_FILE_LINE, LIST, LIST_EFFECTIVE
 from ..program.scripts import Unit
@@ -185,6 +185,11 @@ class World(NamedTuple):
     texts: SnapshotTexts
     everybody: Everybody
     users: List[User]  # The others.
+    is_whole: bool  # Whether paths start at the root of the file system.
+
+    def name_of(self, path: bytes) -> bytes:
+        """A path as a person reads it."""
+        return file_name(path, self.is_whole)
 
     def reach(self, is_alone: bool) -> bytes:
         return b"" if is_alone else b"--reach "
@@ -217,8 +222,9 @@ def world_of(program: str, source: Source) -> Iterator[World]:
     texts = people_in(source.folder)
     everybody = everybody_in(lambda: texts_in([source.folder]))
     with session_with(program, source.folder, *everybody.with_both(texts)) as session:
-        session.ask(LIST + b" .\n")  # Where the program does not load the texts, it says so before they are looked at.
-        yield World(session, texts, everybody, users_in(texts.passwd))
+        # Where the program does not load the texts, it says so before they are looked at.
+        has_root = not session.ask(LIST + b" .\n").messages
+        yield World(session, texts, everybody, users_in(texts.passwd), has_root)
 
 
 def directories_of(dump: bytes) -> Iterator[bytes]:

@@ -4,10 +4,10 @@ from __future__ import annotations
 
 import re
 from collections import Counter
-from typing import Dict, Iterable, List, NamedTuple, Optional, Tuple, Union
+from typing import Callable, Dict, Iterable, List, NamedTuple, Optional, Tuple, Union
 
 from ..base.messages import counted
-from ..base.names import SAFE, live_name, live_path, number_of, read_name, shell_word, shown, sorting_key, write_user
+from ..base.names import SAFE, live_path, number_of, read_name, shell_word, shown, sorting_key, write_user
 from ..model.entries import USER, head_lines, lists_of, named, read_record
 from ..model.people import People
 from ..model.records import File, Files, asks_as_directory, read_listing, write_records
@@ -184,10 +184,10 @@ def left_behind(before: People, after: People, files: Files) -> List[Left]:
     return [left for left in gone.values() if left.owned or left.named][::-1]
 
 
-def notes(left: Left) -> List[bytes]:
+def notes(left: Left, name_of: Callable[[bytes], bytes]) -> List[bytes]:
     """The lines of a report."""
     return [b"%s is removed and still %s %s, first: %s" % (shown(left.name), how, counted(len(paths), "file"),
-                                                           live_name(paths[0]))
+                                                           name_of(paths[0]))
             for how, paths in ((b"owns", left.owned), (b"named in the ACLs of", left.named)) if paths]
 
 

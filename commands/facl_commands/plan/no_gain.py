@@ -6,7 +6,7 @@ from heapq import nsmallest
 from typing import Dict, FrozenSet, List, NamedTuple, Optional, Set, Tuple
 
 from ..base.messages import counted
-from ..base.names import file_word, parent_of, path_word, plain_word, shown_path, sorting_key, way_to, write_user
+from ..base.names import file_name, file_word, parent_of, path_word, plain_word, sorting_key, way_to, write_user
 from ..model.entries import GROUP, USER, Entries, Entry, read_record
 from ..model.entries import named as named_in
 from ..model.label_answers import PeopleTexts, Vectors, ask_vectors
@@ -34,7 +34,7 @@ class NoGain(NamedTuple):
 
     user: bytes
     files: int
-    directory: bytes  # By the name that the program prints: the highest that is closed.
+    directory: bytes  # As a person reads it: the highest that is closed.
     entries: Entries  # Of that directory: those that decide on the user.
     edit: bytes  # The line that opens it; empty where the program does not say so.
     opened: int  # Directories that the line opens.
@@ -217,7 +217,7 @@ def shown_directories(paths: List[bytes]) -> List[bytes]:
 def find(session: Session, program: str, texts: PeopleTexts, old: Side, new: Side, left_out: Set[bytes],
          is_whole: bool) -> List[NoGain]:
     """By users in their order, and by closed directories in path order; the session is as it is after the edits. Where it
-    is whole, the lines have paths from the root of the file system."""
+    is whole, paths are those from the root of the file system."""
     named = Named(old.people, new.people, left_out)
     counts = named.counts(old.files, new.files)
     if not counts:
@@ -237,7 +237,7 @@ def find(session: Session, program: str, texts: PeopleTexts, old: Side, new: Sid
         paths = nsmallest(MOST_DIRECTORIES + 1, it.closed, key=sorting_key)
         group = None if it.gid is None else groups.get(it.gid)
         openings.append(Opening(user, named.users[user], group, it.files, len(it.closed), shown_directories(paths)))
-    return [NoGain(it.user, it.files, shown_path(it.paths[0]), it.entries, line_of(it, is_whole), len(it.paths),
+    return [NoGain(it.user, it.files, file_name(it.paths[0], is_whole), it.entries, line_of(it, is_whole), len(it.paths),
                    it.closed - len(it.paths))
             for it in ask_openings(session, [it for it in openings if it.paths], new.files)]
 

@@ -52,7 +52,7 @@ class Outcome(NamedTuple):
     about: meta.Meta  # What the snapshot is of.
 
     def name_of(self, path: bytes) -> bytes:
-        """The name of a file in JSON: a backslash is an escape too, so two files have two names."""
+        """The name of a file as a person reads it: a backslash is an escape too, so two files have two names."""
         return file_name(path, self.is_whole)
 
     def name_of_shown(self, path: bytes) -> bytes:
@@ -93,7 +93,8 @@ def full_lines(outcome: Outcome) -> Iterator[bytes]:
     """The changes of each file, for scripts; as a person reads them where they go to a terminal."""
     is_terminal = os.isatty(1)
     for file, group in outcome.rights.files:
-        text = b"".join([head_of(it) + file + b"\n" for it in group.differences])
+        end = outcome.name_of_shown(file) + b"\n"
+        text = b"".join([head_of(it) + end for it in group.differences])
         yield shown_lines(text) if is_terminal else text
 
 
@@ -101,8 +102,8 @@ def short_lines(outcome: Outcome, changes: List[Gain]) -> Iterator[bytes]:
     """A line for each kind of change, and those of no gain after the user's changes."""
     rows: Dict[bytes, List[bytes]] = {user: [] for user in outcome.users}
     width = max([len(it.user) for it in changes] + [len(it.user) for it in outcome.no_gain], default=0)
-    lines = [(user, b"%s -> %s" % (old.encode(), new.encode()), count, b"first: " + first) for user, old, new, count,
-             first in changes]
+    lines = [(user, b"%s -> %s" % (old.encode(), new.encode()), count, b"first: " + outcome.name_of_shown(first))
+             for user, old, new, count, first in changes]
     lines += [(it.user, b"no gain", it.files, it.text()) for it in outcome.no_gain]
     for user, what, count, rest in lines:
         rows[user].append(b"  ".join([user.ljust(width), what.ljust(13), counted(count, "file").ljust(8), rest]))
@@ -142,8 +143,7 @@ def text_report(given: argparse.Namespace, outcome: Outcome, changes: ChangedPat
     for command in commands:
         yield shown(b"by hand: " + command) + b"\n"
     for left in outcome.left:
-        lines = [line if outcome.is_whole else line.replace(b", first: /", b", first: ") for line in chown.notes(left)]
-        yield from (shown(line) + b"\n" for line in lines)
+        yield from (shown(line) + b"\n" for line in chown.notes(left, outcome.name_of))
 
 
 # --- as JSON
@@ -165,8 +165,8 @@ def rights_json(outcome: Outcome, is_full: bool) -> List[Dict[str, object]]:
             for user, old, new, count, first in outcome.kinds.kinds]
 
 
-def no_gain_json(outcome: Outcome, it: no_gain.NoGain) -> Dict[str, object]:
-    return {"user": json_text(it.user), "count": it.files, "path": json_text(outcome.name_of_shown(it.directory)),
+def no_gain_json(it: no_gain.NoGain) -> Dict[str, object]:
+    return {"user": json_text(it.user), "count": it.files, "path": json_text(it.directory),
             "entries": texts(map(no_gain.shown_entry, it.entries)), "edit": json_text(it.edit),
             "closed_below": it.closed}
 
@@ -185,7 +185,7 @@ def json_report(given: argparse.Namespace, source: Source, outcome: Outcome, cha
         **choice.head_of(given, source.shown, outcome.about),
         "plan": None if plan is None else json_name(plan),
         "changes": rights_json(outcome, given.full),
-        "no_gain": [no_gain_json(outcome, it) for it in outcome.no_gain],
+        "no_gain": [*map(no_gain_json, outcome.no_gain)],
         "left_out": texts(sorted(outcome.kinds.left_out)),
         **dict(zip(("changed", "made", "removed"), names)),
         "stuck": [{"path": json_text(outcome.name_of(path)), "why": json_text(why)} for path, why in stuck.items()],

@@ -3,10 +3,10 @@ from __future__ import annotations
 
 import argparse
 import os
-from typing import List, Optional, Set
+from typing import Callable, List, Optional, Set
 
 from ...base.messages import Command, Failure, parser_of
-from ...base.names import highest, parent_of, places_below, read_path, shown_path
+from ...base.names import highest, parent_of, places_below, read_path
 from ...base.new_file import NewFile
 from ...base.programs import find_program
 from ...base.tables import add_output, paged, write_json, write_table
@@ -81,14 +81,14 @@ def folders_in(world: World, words: List[str]) -> List[bytes]:
     return (not words and choice.folders_made_of(world.session)) or choice.folders_of(world.session, words)
 
 
-def across_folders(sets: List[List[bytes]], paths: Set[bytes]) -> FoundFiles:
+def across_folders(sets: List[List[bytes]], paths: Set[bytes], name_of: Callable[[bytes], bytes]) -> FoundFiles:
     """Those of some plain files that are in another folder than the first name; a folder that is mounted at two places
     is one folder."""
     first_of, found = {name: names[0] for names in sets for name in names}, FoundFiles()
     for names in sets:
         folders = [first_of.get(parent_of(name), parent_of(name)) for name in names]
         its = [name for name, folder in zip(names, folders) if folder != folders[0] and name in paths]
-        found.add(its, [(b"is one file with " + shown_path(names[0]), b"rm")] * len(its))
+        found.add(its, [(b"is one file with " + name_of(names[0]), b"rm")] * len(its))
     return found
 
 
@@ -96,7 +96,8 @@ def findings_of(audited: Audited, links: List[List[bytes]]) -> Findings:
     tree = audited.tree
     plain = {path for path, kind in zip(tree.paths, tree.kinds) if not tree.files[kind].is_directory} if links else set()
     return {**of_everybody(audited), **of_writers(audited), **of_records(audited, removable(audited)),
-            "default-not-inherited": default_not_inherited(audited), "links-across-folders": across_folders(links, plain)}
+            "default-not-inherited": default_not_inherited(audited),
+            "links-across-folders": across_folders(links, plain, audited.world.name_of)}
 
 
 def part_of(tree: FileTree, folders: List[bytes], first: int) -> FileTree:
@@ -121,7 +122,7 @@ def report_of(given: argparse.Namespace, source: Source, program: str) -> AuditR
                 report.findings[name].add(found.paths, found.mends)
             report.files += len(tree.paths)
             report.recorded.update({line.path for line in report.lines}.intersection(whole.paths))
-            report.is_whole = sources.find_tops(world.session, world.session.folder) == [b""]
+            report.is_whole = world.is_whole
     report.accept()
     return report
 

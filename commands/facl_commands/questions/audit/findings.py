@@ -10,7 +10,7 @@ import os
 from typing import Dict, Iterable, Iterator, List, NamedTuple, Optional, Set, Tuple
 
 from ...base.messages import Failure
-from ...base.names import file_word, is_below, read_path
+from ...base.names import file_name, file_word, is_below, read_path
 from ...base.trusted import read_given
 from ...program.scripts import lines_with_numbers, words_of
 from ...program.session import parts_of
@@ -67,6 +67,10 @@ class FoundFile(NamedTuple):
     def line(self, is_whole: bool) -> bytes:
         """The whole line; of a snapshot that is whole, paths start at the root of the file system."""
         return self.edit + b" " + file_word(self.path, is_whole)
+
+    def fields(self, is_whole: bool) -> List[bytes]:
+        """The file as a person reads it, what is found of it, and the line."""
+        return [file_name(self.path, is_whole), self.detail, self.line(is_whole)]
 
 
 class FoundFiles:

@@ -10,7 +10,7 @@ from itertools import compress
 from typing import Callable, Dict, List, NamedTuple, Optional, Tuple
 
 from ...base import accounts
-from ...base.names import parent_of, shown_path
+from ...base.names import parent_of
 from ...model.entries import (
     GROUP, NOTHING, OTHER, OWNING_GROUP_KEY, USER, Entry, NamesOfIds, ReadRecord, cut_letters, digits, flag_digit, named,
     read_record,
@@ -144,7 +144,7 @@ def default_not_inherited(audited: Audited) -> FoundFiles:
                 known[pair] = lacking_defaults(*map(read_record, pair))
             if known[pair]:
                 keys = b", ".join(ids.shown(it.key) for it in known[pair] if it.is_named())
-                text = b"lacks %s of %s" % (keys or b"the default ACL", shown_path(parent_of(path)))
+                text = b"lacks %s of %s" % (keys or b"the default ACL", audited.world.name_of(parent_of(path)))
                 words = b",".join(ids.entry(it, b"d:") for it in known[pair])
                 found.add([path], [(text, b"setfacl -n -m " + words)])
     return found

@@ -4,7 +4,7 @@ from __future__ import annotations
 import argparse
 from typing import Dict
 
-from ...base.names import shown, shown_path
+from ...base.names import live_name, shown
 from ...model import sources
 from ...model.marks import marks_of
 from ...model.snapshot import read_snapshot
@@ -21,7 +21,7 @@ MOST = 1_000  # Files of a finding that the page has.
 
 def fields_of(kind: KindOfFinding, found: FoundFiles, is_whole: bool) -> Dict[str, object]:
     """A finding as the page has it, where each path has a slash at its start."""
-    rows = [(b"/" + shown_path(it.path) if it.path else b"/", it.detail, it.line(is_whole)) for it in found.first(MOST)]
+    rows = [(live_name(it.path), it.detail, it.line(is_whole)) for it in found.first(MOST)]
     files = [[shown(text).decode() for text in row] for row in rows]
     return {"name": kind.name, "weight": kind.weight, "meaning": kind.meaning, "count": len(found), "files": files}
 

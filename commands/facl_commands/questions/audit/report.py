@@ -6,7 +6,7 @@ import os
 from typing import Dict, Iterator, List, Optional, Set
 
 from ...base.messages import counted
-from ...base.names import at_or_below, file_name, is_at_or_below, json_text, shell_word, shown, shown_path
+from ...base.names import at_or_below, file_name, is_at_or_below, json_text, shell_word, shown
 from ...base.programs import program_words
 from ...base.tables import Column, Paint, Table, fitting_line
 from ...model import sources, split_tree
@@ -67,9 +67,9 @@ def lines_of_kind(kind: KindOfFinding, found: FoundFiles, is_whole: bool, paint:
     yield fitting_line(kind.meaning.encode(), INDENT)
     first = next(found.first())
     detail = b" (" + first.detail + b")" if first.detail else b""
-    yield fitting_line(b"first: " + shown_path(first.path) + detail, INDENT)
+    yield fitting_line(b"first: " + file_name(first.path, is_whole) + detail, INDENT)
     if len(found) > 1:
-        names = b", ".join(map(shown_path, found.paths[1 : FIRST + 1]))
+        names = b", ".join(file_name(path, is_whole) for path in found.paths[1 : FIRST + 1])
         yield fitting_line(b"then:  " + names + b", .." * (len(found) > FIRST + 1), INDENT)
     yield b" " * INDENT + b"for facl plan: " + shown(first.line(is_whole))  # Whole, to be copied.
 
@@ -128,7 +128,7 @@ def written(words: List[str]) -> bytes:
 
 def table_of(report: AuditReport) -> Table:
     """A row for each finding."""
-    rows = [[kind.weight.encode(), kind.name.encode(), b"%d" % len(found), shown_path(it.path), it.detail, it.line(report.is_whole)]
+    rows = [[kind.weight.encode(), kind.name.encode(), b"%d" % len(found), *it.fields(report.is_whole)]
             for kind in report.kinds() for found in [report.findings[kind.name]] for it in found.first(1)]
     columns = [Column("WEIGHT"), Column("FINDING"), Column("FILES", True), Column("FIRST"), Column("WHAT"),
                Column("FOR FACL PLAN")]
@@ -137,12 +137,12 @@ def table_of(report: AuditReport) -> Table:
 
 def table_of_files(found: FoundFiles, is_whole: bool) -> Table:
     """A row for each file of a finding."""
-    rows = [[shown_path(it.path), it.detail, it.line(is_whole)] for it in found.first()]
+    rows = [it.fields(is_whole) for it in found.first()]
     return Table([Column("FILE"), Column("WHAT"), Column("FOR FACL PLAN")], rows)
 
 
 def json_of_kind(kind: KindOfFinding, found: FoundFiles, has_all: bool, is_whole: bool) -> Dict[str, object]:
-    texts = [(file_name(it.path, is_whole), it.detail, it.line(is_whole)) for it in found.first(None if has_all else FIRST)]
+    texts = (it.fields(is_whole) for it in found.first(None if has_all else FIRST))
     files = [dict(zip(("path", "what", "edit"), map(json_text, its))) for its in texts]
     return {"finding": kind.name, "weight": kind.weight, "meaning": kind.meaning, "count": len(found), "files": files}
 

@@ -5,7 +5,7 @@ from __future__ import annotations
 from typing import Dict, Iterable, Iterator, List, NamedTuple, Optional, Tuple
 
 from ...base.messages import Failure
-from ...base.names import parent_of, path_word, shown_path, way_to, write_user
+from ...base.names import parent_of, path_word, way_to, write_user
 from ...model.alike import AlikeFiles, AlikeKey
 from ...model.choice import is_chosen
 from ...model.entries import GROUP, OTHER, USER, Key, digits, flag_digit, named, read_record, without
@@ -41,10 +41,11 @@ class OpenRight(NamedTuple):
     edit: bytes
 
     def finding(self, closed: Optional[bytes]) -> Tuple[str, Mend]:
-        """The finding, and what is found; below a directory that everybody else cannot search, or where there is none."""
+        """The finding, and what is found; below a directory, by its name, that everybody else cannot search, or where there is
+        none."""
         if closed is None:
             return self.open, (self.detail, self.edit)
-        return self.behind, (b"closed by " + shown_path(closed), self.edit)
+        return self.behind, (b"closed by " + closed, self.edit)
 
 
 class EverybodyRights:
@@ -92,7 +93,8 @@ def of_everybody(audited: Audited) -> Findings:
         for place in places:
             key = kinds[place], closed
             if key not in known:
-                known[key] = [it for it in (right.finding(closed) for right in rights[key[0]]) if it[0]]
+                shown = None if closed is None else audited.world.name_of(closed)
+                known[key] = [it for it in (right.finding(shown) for right in rights[key[0]]) if it[0]]
             for name, mend in known[key]:
                 found[name].paths.append(tree.paths[place])
                 found[name].mends.append(mend)

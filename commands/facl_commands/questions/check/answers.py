@@ -199,7 +199,7 @@ def rules_of(rights: Rights, reader: RuleReader, right: bytes, top: bytes) -> It
 def rules_that_hold(rights: Rights, reader: RuleReader, tops: List[bytes]) -> Iterator[bytes]:
     """The lines of the file, with a comment for each path."""
     for top in tops:
-        word = rule_path(top, rights.is_directory(top) or not is_recorded(rights.world.session, top))
+        word = rule_path(top, rights.is_directory(top) or not is_recorded(rights.world.session, top), rights.world.is_whole)
         yield b"\n# " + word
         rules = [b" ".join([*words, right, word]) for right in (READ, WRITE)
                  for words in rules_of(rights, reader, right, top)]

@@ -93,7 +93,6 @@ def report_of(given: argparse.Namespace, source: Source, program: str) -> CheckR
                 rules = reader.read(given.rules)
             known = paths_of(world)
             paths = once.of_part(known) if parts else known
-            is_whole = sources.find_tops(world.session, world.session.folder) == [b""]
             rights = Rights(world, given.file_alone, paths, len(paths) == len(known), chosen)
             here = {b"", *{rule.path for rule in rules}.intersection(known)}
             for rule in rules:
@@ -102,7 +101,7 @@ def report_of(given: argparse.Namespace, source: Source, program: str) -> CheckR
                     outcomes[rule.number] = outcomes[rule.number].joined(found) if rule.number in outcomes else found
             left_out |= rights.left_out
     assert reader is not None
-    passwd = reader.world.texts.passwd
+    passwd, is_whole = reader.world.texts.passwd, reader.world.is_whole
     name = b"standard input" if given.rules == INPUT else os.fsencode(given.rules)
     about = split_tree.meta_of_all(parts) if parts else meta_of(source.folder)
     return CheckReport(source.shown, about, name, [outcomes[rule.number] for rule in rules],

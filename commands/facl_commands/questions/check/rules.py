@@ -10,7 +10,7 @@ import re
 from typing import Callable, List, NamedTuple, Optional, Set, Tuple
 
 from ...base.messages import Failure
-from ...base.names import plain_word, read_name, read_path, shown_path, write_name
+from ...base.names import file_name, plain_word, read_name, read_path, write_name
 from ...base.trusted import read_given
 from ...model.choice import is_recorded
 from ...model.everybody import World
@@ -167,5 +167,5 @@ def group_word(group: Group) -> bytes:
     return word if not word.startswith(b"'") else IN_GROUP + b"'" + word[2:]
 
 
-def rule_path(path: bytes, is_directory: bool) -> bytes:
-    return plain_word(b"/" if not path else shown_path(path) + b"/" * is_directory)
+def rule_path(path: bytes, is_directory: bool, is_whole: bool) -> bytes:
+    return plain_word(file_name(path, is_whole) + b"/" * is_directory if path else b"/")

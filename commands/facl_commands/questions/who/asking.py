@@ -9,9 +9,9 @@ import re
 from typing import Dict, Iterable, Iterator, List, NamedTuple, Optional, Sequence, Tuple
 
 from ...base.messages import Failure
-from ...base.names import file_name, number_of, path_word, read_name, write_user
+from ...base.names import number_of, path_word, read_name, write_user
 from ...base.tables import Table
-from ...model import meta, sources
+from ...model import meta
 from ...model.entries import OTHER_KEY, OWNER_KEY, OWNING_GROUP_KEY, Entry, entries_of, read_record
 from ...model.everybody import SHOWN, World, beside
 from ...model.label_answers import ask_records
@@ -69,7 +69,6 @@ class Asker:
 
     def __init__(self, world: World, given: argparse.Namespace) -> None:
         self.world, self.session, self.given = world, world.session, given
-        self.is_whole = sources.find_tops(self.session, self.session.folder) == [b""]
         self.users = world.users
         # The rows of all whom an answer can have, in its order: everybody else comes first.
         self.passwd = world.everybody.passwd() + world.texts.passwd
@@ -89,7 +88,7 @@ class Asker:
 
     def name_of(self, path: bytes) -> bytes:
         """The name of a file on the live system, where the snapshot starts at the root; with the program's escapes."""
-        return file_name(path, self.is_whole)
+        return self.world.name_of(path)
 
     def spoken(self, folders: List[bytes]) -> bytes:
         """Some folders in a message."""
