@@ -75,7 +75,7 @@ module _ (V : Verdict) (us ws : List Person) (at : ℕ) (groups : List ℕ) (m :
       some_same : {X : Type 0} {a b : X} → Some a ≡ Some b → a ≡ b
       some_same e = cc
 
-  -- the cells with that of the moved user asked for again
+  -- the cells, with the moved user judged again
   pub cells_again : (n : Node) (x : Person) → slice_get ws at ≡ Some x → set (cells_of V us n) at (V x n.label) ≡ cells_of V ws n
   cells_again n x is =
       ap (λ u. set (cells_of V us n) at (V u n.label)) (moved_next x is)

@@ -59,7 +59,7 @@ seen_paths fs ls are =
     ∙ sym (map_twice with_label (λ (l : PathOf × Label). l.0) ls)
     ∙ label_paths fs (map with_label ls) are
 
--- what is asked for labels of changed files
+-- how many verdicts the labels of changed files take
 pub files_cost : (t : StagedState) (labels : List (Bor PathOf × Bor Label)) (users : List Person) → map with_label labels ≡ labels_of t.changed
     → users ≡ persons t.state.people → length labels * length users ≤ most_asked t
 files_cost t labels users are same =

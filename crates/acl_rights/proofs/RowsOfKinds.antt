@@ -149,7 +149,7 @@ pub places_order : (ls : List Label) (es : List (PathOf × ℕ)) (ps : List (Pat
 places_order ls es ps h order =
     sym (sorted_rows (slice_get ls) es) ∙ ap (is_sorted path_cmp) h ∙ sorted_rows Some ps ∙ order
 
--- where a label mentions one of the groups, the verdict is asked for again; else the row stays
+-- if a label mentions one of the groups, the user is judged again; else the row stays
 pub again_where : (V : Verdict) (at : ℕ) (u : Person) (groups : List ℕ) → changed_where (mentions_any groups) (asked_again V at u) ≡ with_again V at u groups
 again_where V at u groups = λ i r. by r (mentions_any groups r) i
   where

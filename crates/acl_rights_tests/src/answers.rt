@@ -165,7 +165,7 @@ static COUNTS: [Row; 5] = [
     },
 ];
 
-/// The first files of a user at or below a path on which a request is granted: as many as are asked for, and those before them
+/// The first files of a user at or below a path on which a request is granted, up to the number in the line; those before them
 /// that are not granted do not count.
 static LISTED: [Row; 7] = [
     Row {

@@ -137,7 +137,7 @@ fn count_below<'a, J: Judge>(
     count_kind(alloc, &mut files, classes, kind, top)
 }
 
-/// Adds the files that are asked for at a path or below it to the sums of users; all before them were added.
+/// Adds the files of the question at or below `top` to the sums of users; all before them were added.
 fn add_below<'a, J: Judge>(
     alloc: Global,
     sums: &mut UserSums<'a>,

@@ -69,7 +69,7 @@ fn push_if<'a>(
     Ok(())
 }
 
-/// Adds the files of a walk at or below a path that are listed, until there are as many as are asked for.
+/// Adds the listed files of a walk at or below `top`, up to `listing.most` in all.
 fn collect_files<'a>(
     alloc: Global,
     found: &mut Vec<FoundFile<'a>>,
@@ -93,8 +93,7 @@ fn collect_files<'a>(
     Ok(())
 }
 
-/// Adds the files at a path or below it that are listed, until there are as many as are asked for; all before them
-/// were added.
+/// Adds the listed files at or below `top`, up to `listing.most` in all; all before them were added.
 fn collect_below<'a, J: Judge>(
     alloc: Global,
     found: &mut Vec<FoundFile<'a>>,

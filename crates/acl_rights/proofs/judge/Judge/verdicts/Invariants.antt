@@ -1,7 +1,7 @@
 use Rattle.std.proofs.Common.{◌≡◌, ◌+◌, ◌*◌, ◌<◌, map, take, length}
 use Rattle.acl_rights.proofs.judge.Judge.verdicts.Given as goal
 
--- the users before this place were asked for this file, and all users for the files before
+-- the users before this place were judged on this file, and all users on the files before
 abbrev pub invariant-loop-at : goal.invariant-loop-at
 invariant-loop-at g l = record {
   row : take l.at l.row ≡ map (λ u. g.Self.Judge.verdict_of u l.label) (map (λ s. s.value) (take l.at l.user-items));

@@ -14,11 +14,11 @@ use Rattle.facl.specs.Below.{listed_answered, listed_at}
 use Rattle.facl.specs.declared.tools.below.BelowLine.{BelowLine}
 use Rattle.facl.proofs.tools.below.answer_listed.Goals as goal
 
--- what is left where the paths are known, and what is read of the user
-begun : (V : Verdict) (s : State) (line : BelowLine) (word : Text) (most : ℕ) (paths : List PathOf) (known : KnownPeople) (user : Result ℕ LineFault)
+-- the remaining reads, once the paths are known, and what is read of the user
+remaining : (V : Verdict) (s : State) (line : BelowLine) (word : Text) (most : ℕ) (paths : List PathOf) (known : KnownPeople) (user : Result ℕ LineFault)
     → paths_from 1 line.files ≡ Ok paths → known ≡ s.people → user_at known (name_meant word) ≡ user
     → listed_answered V s line word most ≡ ((user >>= listed_at V s line most paths) >>= λ out. Ok (printed s out))
-begun V s line word most paths known user is of_state at =
+remaining V s line word most paths known user is of_state at =
     ap (λ read. (read >>= λ paths. user_at s.people (name_meant word) >>= listed_at V s line most paths) >>= λ out. Ok (printed s out)) is
     ∙ ap (λ (u : Result ℕ LineFault). (u >>= listed_at V s line most paths) >>= λ out. Ok (printed s out))
     (sym (ap (λ (known : KnownPeople). user_at known (name_meant word)) of_state) ∙ at)
@@ -32,7 +32,7 @@ returns-in_err-user g c =
     let read = ap (paths_from 1) (sym c.as_slice.ensures) ∙ c.in_ok-paths.ensures in
     let of_state = c.people.ensures ∙ ap (λ (s : State). s.people) c.state.ensures in
     let fails = λ (other : c.in_err-user.field-0.0 ≢ NoMemory).
-    begun g.J.Judge.verdict_of s c.args.line.now c.args.user.now c.args.most c.in_ok-paths.paths c.people.result.now (Err c.in_err-user.field-0.0) read of_state (c.in_err-user.ensures other)
+    remaining g.J.Judge.verdict_of s c.args.line.now c.args.user.now c.args.most c.in_ok-paths.paths c.people.result.now (Err c.in_err-user.field-0.0) read of_state (c.in_err-user.ensures other)
     in
     grind (arith, common_steps, fails)
 
@@ -42,7 +42,7 @@ returns-in_err-out g c =
     let read = ap (paths_from 1) (sym c.as_slice.ensures) ∙ c.in_ok-paths.ensures in
     let of_state = c.people.ensures ∙ ap (λ (s : State). s.people) c.state.ensures in
     let is =
-    begun g.J.Judge.verdict_of s c.args.line.now c.args.user.now c.args.most c.in_ok-paths.paths c.people.result.now (Ok c.in_ok-user.user) read of_state c.in_ok-user.ensures in
+    remaining g.J.Judge.verdict_of s c.args.line.now c.args.user.now c.args.most c.in_ok-paths.paths c.people.result.now (Ok c.in_ok-user.user) read of_state c.in_ok-user.ensures in
     grind (arith, common_steps, is)
 
 pub returns : goal.returns
@@ -51,5 +51,5 @@ returns g c =
     let read = ap (paths_from 1) (sym c.as_slice.ensures) ∙ c.in_ok-paths.ensures in
     let of_state = c.people.ensures ∙ ap (λ (s : State). s.people) c.state.ensures in
     let is =
-    begun g.J.Judge.verdict_of s c.args.line.now c.args.user.now c.args.most c.in_ok-paths.paths c.people.result.now (Ok c.in_ok-user.user) read of_state c.in_ok-user.ensures in
+    remaining g.J.Judge.verdict_of s c.args.line.now c.args.user.now c.args.most c.in_ok-paths.paths c.people.result.now (Ok c.in_ok-user.user) read of_state c.in_ok-user.ensures in
     grind (arith, common_steps, is)

@@ -15,11 +15,11 @@ use Rattle.facl.specs.declared.tools.why.WhyLine.{WhyLine}
 use Rattle.acl_text.specs.Results.{◌>>=◌}
 use Rattle.facl.proofs.tools.why.answer.Goals as goal
 
--- what is left where the paths and the user are known
-begun : (D : Decider) (s : State) (line : WhyLine) (paths : List PathOf) (user : Option Person) → paths_from 1 line.files ≡ Ok paths
+-- the remaining reads, once the paths and the user are known
+remaining : (D : Decider) (s : State) (line : WhyLine) (paths : List PathOf) (user : Option Person) → paths_from 1 line.files ≡ Ok paths
     → user ≡ person_named s.people (name_meant line.user)
     → ((ok_or user (Tree (NoSuchUser (name_meant line.user))) >>= why_at D s line.reach paths) >>= λ out. Ok (printed s out)) ≡ answered D s line
-begun D s line paths user is named =
+remaining D s line paths user is named =
     ap (λ (u : Option Person). (ok_or u (Tree (NoSuchUser (name_meant line.user))) >>= why_at D s line.reach paths) >>= λ out. Ok (printed s out)) named
     ∙ ap (λ read. read >>= why_of D s line.reach line.user >>= λ out. Ok (printed s out)) (sym is)
 
@@ -32,7 +32,7 @@ returns-in_default g c not_memory =
     sym (ap option_copied c.in_default.is) ∙ c.subject_named.ensures
     ∙ ap (λ known. person_named known c.in_ok-name.name) (c.people.ensures ∙ ap (λ s. s.people) c.state.ensures)
     ∙ ap (person_named s.people) c.in_ok-name.ensures in
-    sym (begun g.J.Judge.decider_of s line c.in_ok-paths.paths None read named) ∙ ap (λ name. Err (Tree (NoSuchUser name))) (sym c.in_ok-name.ensures)
+    sym (remaining g.J.Judge.decider_of s line c.in_ok-paths.paths None read named) ∙ ap (λ name. Err (Tree (NoSuchUser name))) (sym c.in_ok-name.ensures)
 
 pub returns-in_err-files : goal.returns-in_err-files
 returns-in_err-files g c =
@@ -43,7 +43,7 @@ returns-in_err-files g c =
     sym (ap option_copied c.in-Some.is) ∙ c.subject_named.ensures
     ∙ ap (λ known. person_named known c.in_ok-name.name) (c.people.ensures ∙ ap (λ s. s.people) c.state.ensures)
     ∙ ap (person_named s.people) c.in_ok-name.ensures in
-    let is = begun g.J.Judge.decider_of s line c.in_ok-paths.paths (Some c.in-Some.subject.now) read named in
+    let is = remaining g.J.Judge.decider_of s line c.in_ok-paths.paths (Some c.in-Some.subject.now) read named in
     grind (arith, common_steps, is)
 
 pub returns-in_err-out : goal.returns-in_err-out
@@ -58,5 +58,5 @@ returns g c =
     sym (ap option_copied c.in-Some.is) ∙ c.subject_named.ensures
     ∙ ap (λ known. person_named known c.in_ok-name.name) (c.people.ensures ∙ ap (λ s. s.people) c.state.ensures)
     ∙ ap (person_named s.people) c.in_ok-name.ensures in
-    let is = begun g.J.Judge.decider_of s line c.in_ok-paths.paths (Some c.in-Some.subject.now) read named in
+    let is = remaining g.J.Judge.decider_of s line c.in_ok-paths.paths (Some c.in-Some.subject.now) read named in
     grind (arith, common_steps, is)
