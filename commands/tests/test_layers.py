@@ -19,9 +19,9 @@ ALLOWED: Dict[str, Tuple[str, ...]] = {
     "plan": ("base", "program", "model", "planned"), "page": ("base", "program", "model", "plan"),
     "questions.who": QUESTION, "questions.check": QUESTION,
     "questions.diff": (*QUESTION, "page"), "questions.audit": (*QUESTION, "page"),
-    "apply": ("base", "planned", "model.meta"), "daily": ("base",), "snapshot": ("base",),
+    "apply": ("base", "planned", "model.meta"), "daily": ("base",), "snapshot": ("base",), "jobs": ("base", "program", "model"),
     # It starts commands by their names.
-    "verbs": (*QUESTION, "daily.folder", "questions.audit.findings", "questions.who.asking", "snapshot.recording",
+    "verbs": (*QUESTION, "jobs", "daily.folder", "questions.audit.findings", "questions.who.asking", "snapshot.recording",
               "snapshot.target"),
 }
 Imports = Dict[str, Set[str]]  # By the name of a module: the modules that it imports, also late ones in functions.

@@ -51,17 +51,22 @@ def two(command: Command, given: argparse.Namespace) -> None:
     given.before, given.after = (os.fsdecode(it.folder) for it in found)
 
 
+def take_edits(given: argparse.Namespace, edits: bytes) -> None:
+    """Has facl-plan read lines of edits from its standard input."""
+    with scratch.new_file("facl-edits.") as file:
+        file.write(edits)
+        file.seek(0)
+        os.dup2(file.fileno(), 0)
+    given.scripts = ["-"]
+
+
 def plan(command: Command, given: argparse.Namespace) -> None:
     """Takes lines of edits in the place of a file, and names the plan by the edits."""
     if bool(given.edit) == bool(given.scripts):
         raise Failure(b"give a file of edits, or lines with -e LINE")
     choose(command, given)
     if given.edit:
-        with scratch.new_file("facl-edits.") as file:
-            file.write(os.fsencode("".join(line + "\n" for line in given.edit)))
-            file.seek(0)
-            os.dup2(file.fileno(), 0)
-        given.scripts = ["-"]
+        take_edits(given, b"".join(os.fsencode(line) + b"\n" for line in given.edit))
     if given.output is None:
         name = os.path.basename(given.scripts[0])
         given.output = (EDITS if name in ("", "-", ".", "..") else name) + ".plan"

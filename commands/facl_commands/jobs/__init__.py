@@ -1,0 +1,1 @@
+"""Jobs of a week as edits of a plan: what a person would write line by line."""
