@@ -20,11 +20,8 @@ from typing import Dict, Iterator, List, NamedTuple, Optional
 
 from lib import script
 from lib.script import TOP, Failed
-
-sys.path.insert(0, os.path.join(TOP, "commands"))
-
-from facl_commands.verbs.options import BY_FIELD, VerbOption  # noqa: E402
-from facl_commands.verbs.table import BY_VERB, Verb  # noqa: E402
+from facl_commands.verbs.options import BY_FIELD, VerbOption
+from facl_commands.verbs.table import BY_VERB, Verb
 
 TEXTS = os.path.join(TOP, "docs", "pages")
 HEAD = re.compile(r"# ([a-z-]+)\(([157])\): (.+)")

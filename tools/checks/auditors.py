@@ -17,24 +17,19 @@ from __future__ import annotations
 import argparse
 import json
 import os
-import random
 import resource
-import subprocess
 import tempfile
 from typing import Dict, Iterator, List, NamedTuple, Set, Tuple
 
-from lib.script import Failed, TOP, WITH_PEOPLE
+from lib.random_world import AT_FDCWD, ELSE, FIRST_UID, MODES, PERMS, World, asked, opened, printed, show_odd
+from lib.script import Failed
 from lib.session import conclude, options_of
-from .kernel import AT_FDCWD, asked, printed, show_odd
 
-FIRST_UID, FIRST_GID, NOBODY = 71000, 72000, 71999
 READ, WRITE, ENTER = "read", "write", "enter"
 RIGHTS = (READ, WRITE, ENTER)
 REQUESTS = {"r": 4, "w": 2, "x": 1, "wx": 3}
 OTHERS, EVERYBODY = "others", "everybody"  # Words of rules; all whom the check is about are people.
-SHOWN = "everybody else"  # What answers have for others.
 FIRST = 3  # Files that facl-check names.
-MODES = (0o755, 0o750, 0o711, 0o700, 0o644, 0o640, 0o664, 0o604, 0o770, 0o773, 0o772, 0o775)
 Paths = Dict[Tuple[str, str], Set[str]]  # By user and request.
 Broken = Set[Tuple[str, int, Tuple[str, ...]]]  # A user, the number of files, and the first of them.
 
@@ -44,105 +39,49 @@ class Rule(NamedTuple):
     broken: Broken
 
 
-class World:
-    """A tree, and its users and groups, who are in files of its own."""
+class Audited(World):
+    """A tree of which most directories are open, with users who have a group each of their own, by their names."""
+
+    perms = (*PERMS, "-w-")
+    modes = (*MODES, 0o773, 0o772, 0o775)
+    masks = ("rwx", "rwx", "r-x", "rw-", "--x", "---", "---")
 
     def __init__(self, work: str, given: argparse.Namespace) -> None:
-        self.work, self.program, self.chance = work, given.program, random.Random(given.seed)
-        self.top, self.snapshot = os.path.join(work, "tree"), os.path.join(work, "s")
-        self.users = [f"k{number}" for number in range(given.users)]
-        self.groups = {f"g{number}": [it for it in self.users if self.chance.random() < 0.2] for number in range(given.groups)}
-        self.uids = {**{name: FIRST_UID + number for number, name in enumerate(self.users)}, OTHERS: NOBODY}
-        os.mkdir(self.top, 0o755)
-        self.folders, self.files = [self.top], [self.top]
-        while len(self.files) < given.files:
-            self.make(os.path.join(self.chance.choice(self.folders), f"n{len(self.files)}"))
-        for place in self.files[1:]:
-            self.dress(place)
+        super().__init__(work, given, given.seed, given.groups, has_own_groups=True)
         self.files.sort(key=lambda place: place.split("/"))
         self.records = self.read_records()
-        self.write_people()
-
-    def make(self, place: str) -> None:
-        if self.chance.random() < 0.15:
-            os.mkdir(place)
-            self.folders.append(place)
-        else:
-            open(place, "wb").close()
-        self.files.append(place)
-
-    def entry(self) -> str:
-        user, group = self.chance.randrange(len(self.users)), self.chance.randrange(len(self.groups))
-        who = f"u:{FIRST_UID + user}" if self.chance.random() < 0.6 else f"g:{FIRST_GID + group}"
-        return who + ":" + self.chance.choice(("---", "r--", "rw-", "r-x", "rwx", "--x", "-w-"))
+        self.people = [self.name(it) for it in range(self.users)]
+        self.numbers = {name: number for number, name in enumerate([*self.people, OTHERS])}
+        self.members = {f"g{number}": [*map(self.name, its)] for number, its in enumerate(self.groups)}
 
     def dress(self, place: str) -> None:
-        """Gives a file an owner, a group, a mode and perhaps entries, with an empty mask or another one."""
-        user, group = self.chance.randrange(len(self.users)), self.chance.randrange(len(self.groups))
-        os.chown(place, FIRST_UID + user, FIRST_GID + group)
-        is_open = place in self.folders and self.chance.random() < 0.6
-        os.chmod(place, 0o775 if is_open else self.chance.choice(MODES))
-        if self.chance.random() < 0.4:
-            mask = self.chance.choice(("rwx", "rwx", "r-x", "rw-", "--x", "---", "---"))
-            entries = sorted({it.rpartition(":")[0]: it for it in (self.entry(), self.entry())}.values())
-            printed(["setfacl", "-n", "-m", ",".join([*entries, "m::" + mask]), place])
+        super().dress(place)
+        if place in self.folders and self.chance.random() < 0.6:
+            os.chmod(place, 0o775)
 
     def read_records(self) -> Dict[str, str]:
         text = printed(["getfacl", "-R", "-n", "-p", self.top])
         records = (record.partition("\n") for record in text.split("\n\n") if record)
         return {first[len("# file: "):]: body for first, _, body in records}
 
-    def write_people(self) -> None:
-        texts = {"passwd": "".join(f"{it}:x:{self.uids[it]}:{self.uids[it]}::/:/bin/sh\n" for it in self.users),
-                 "group": "".join(f"{it}:x:{self.uids[it]}:\n" for it in self.users) + "".join(
-                     f"{name}:x:{FIRST_GID + number}:{','.join(its)}\n" for number, (name, its) in enumerate(self.groups.items())),
-                 }
-        for name, text in texts.items():
-            with open(os.path.join(self.work, name), "w", encoding="ascii") as file:
-                file.write(text)
 
-    def command(self, name: str, *words: str) -> str:
-        """What a command prints, which finds something or nothing."""
-        start = [WITH_PEOPLE, self.work] if name == "facl-snapshot" else []
-        done = subprocess.run([*start, os.path.join(TOP, "commands", name), *words], env={**os.environ, "FACL_LINUX": self.program},
-                              capture_output=True, text=True, check=False)
-        if done.returncode not in (0, 1) or done.stderr:
-            raise Failed(f"{name} ended with status {done.returncode}: {done.stderr[-300:]}")
-        return done.stdout
-
-    def group_ids(self, user: str) -> List[int]:
-        return [FIRST_GID + number for number, its in enumerate(self.groups.values()) if user in its]
-
-    def below(self, top: str) -> List[str]:
-        return [it for it in self.files if it == top or it.startswith(top + "/")]
-
-
-def ask_kernel(world: World) -> Tuple[Paths, Paths]:
-    """What the kernel grants, along paths and alone: this process asks with the ids of each, as which it is not root."""
+def ask_kernel(world: Audited) -> Tuple[Paths, Paths]:
+    """What the kernel grants, along paths and alone."""
     along: Paths = {}
     alone: Paths = {}
-    descriptors, groups = {path: os.open(path, os.O_PATH) for path in world.files}, os.getgroups()
-    for user, uid in world.uids.items():
-        os.setgroups(world.group_ids(user))
-        os.setegid(uid)
-        os.seteuid(uid)
-        try:
-            for letters, request in REQUESTS.items():
-                along[user, letters] = {path for path in world.files if asked(AT_FDCWD, path.encode(), request)}
-                alone[user, letters] = {path for path, it in descriptors.items() if asked(it, b"", request)}
-        finally:
-            os.seteuid(0)
-            os.setegid(0)
-            os.setgroups(groups)
-    for descriptor in descriptors.values():
-        os.close(descriptor)
+    with opened(world.files) as descriptors:
+        for user, number in world.numbers.items():
+            with world.acting_as(number):
+                for letters, request in REQUESTS.items():
+                    along[user, letters] = {path for path in world.files if asked(AT_FDCWD, path.encode(), request)}
+                    alone[user, letters] = {path for path, it in descriptors.items() if asked(it, b"", request)}
     return along, alone
 
 
 class Rights:
     """What users may do, by the kernel."""
 
-    def __init__(self, world: World, granted: Paths) -> None:
+    def __init__(self, world: Audited, granted: Paths) -> None:
         self.granted, self.folders = granted, set(world.folders)
 
     def has(self, user: str, right: str) -> Set[str]:
@@ -163,20 +102,20 @@ class Rights:
 # --- rules
 
 
-def who_of(world: World) -> Tuple[List[str], Set[str]]:
+def who_of(world: Audited) -> Tuple[List[str], Set[str]]:
     """Words of a rule, and the users that they mean."""
-    words = world.chance.sample([*world.users, *("@" + it for it in world.groups), OTHERS, EVERYBODY], world.chance.choice((1, 1, 2, 4)))
-    of_word = {EVERYBODY: [*world.uids], **{"@" + name: users for name, users in world.groups.items()}}
+    words = world.chance.sample([*world.people, *("@" + it for it in world.members), OTHERS, EVERYBODY], world.chance.choice((1, 1, 2, 4)))
+    of_word = {EVERYBODY: [*world.numbers], **{"@" + name: users for name, users in world.members.items()}}
     return words, {it for word in words for it in of_word.get(word, [word])}
 
 
-def rule_at_random(world: World, rights: Rights) -> Rule:
+def rule_at_random(world: Audited, rights: Rights) -> Rule:
     kind, right = world.chance.choice(("never", "only", "always")), world.chance.choice(RIGHTS)
     top = world.chance.choice(world.folders if world.chance.random() < 0.8 else world.files)
     words, users = who_of(world)
     paths = world.below(top)
     if kind == "only":
-        users = set(world.uids) - users
+        users = set(world.numbers) - users
     found = {user: rights.of(user, right, paths, top) for user in users}
     if kind == "always":
         asked_of = rights.asked(paths, right, top)
@@ -185,15 +124,15 @@ def rule_at_random(world: World, rights: Rights) -> Rule:
     return Rule(" ".join([kind, *words, right, top + "/"]), broken)
 
 
-def compare_rules(world: World, rights: Rights, number: int, *options: str) -> Tuple[int, int]:
+def compare_rules(world: Audited, rights: Rights, number: int, *options: str) -> Tuple[int, int]:
     """How many users rules do not hold for, and how many rules differ."""
     rules = [rule_at_random(world, rights) for _ in range(number)]
     name = os.path.join(world.work, "rules")
     with open(name, "w", encoding="ascii") as file:
         file.write("".join(rule.words + "\n" for rule in rules))
     os.chmod(name, 0o600)
-    found = json.loads(world.command("facl-check", "--json", *options, world.snapshot, name))["rules"]
-    said = [{(OTHERS if it["user"] == SHOWN else it["user"], it["count"], tuple(it["paths"]))
+    found = json.loads(world.command("facl-check", "--json", *options, world.snapshot, name, wanted=(0, 1)))["rules"]
+    said = [{(OTHERS if it["user"] == ELSE else it["user"], it["count"], tuple(it["paths"]))
              for it in rule["violations"]} for rule in found]
     odd = [(rule.words, *sorted(rule.broken ^ its)) for rule, its in zip(rules, said) if rule.broken != its]
     broken = sum(len(rule.broken) for rule in rules)
@@ -206,23 +145,23 @@ def compare_rules(world: World, rights: Rights, number: int, *options: str) -> T
 # --- findings
 
 
-def named_users(world: World, path: str) -> Iterator[str]:
+def named_users(world: Audited, path: str) -> Iterator[str]:
     for line in world.records[path].split("\n"):
         if line.startswith("user:") and not line.startswith("user::"):
             yield f"k{int(line.split(':')[1]) - FIRST_UID}"
 
 
-def outsiders(world: World, rights: Rights) -> Set[Tuple[str, str]]:
+def outsiders(world: Audited, rights: Rights) -> Set[Tuple[str, str]]:
     """Who writes by an entry where nobody else of the user's groups may."""
-    writers = {user: rights.has(user, WRITE) for user in world.users}
-    fellows = {user: {it for its in world.groups.values() if user in its for it in its} - {user} for user in world.users}
+    writers = {user: rights.has(user, WRITE) for user in world.people}
+    fellows = {user: {it for its in world.members.values() if user in its for it in its} - {user} for user in world.people}
     return {(path, user) for path in world.files for user in named_users(world, path)
-            if path in writers[user] and f"# owner: {world.uids[user]}\n" not in world.records[path]
+            if path in writers[user] and f"# owner: {world.uid(world.numbers[user])}\n" not in world.records[path]
             and "\nmask::---" not in world.records[path]
             and not any(path in writers[it] for it in fellows[user])}
 
 
-def findings_of(world: World, along: Rights, alone: Rights) -> Dict[str, Set[Tuple[str, str]]]:
+def findings_of(world: Audited, along: Rights, alone: Rights) -> Dict[str, Set[Tuple[str, str]]]:
     plain = set(world.files) - along.folders
     sets = {
         "readable-by-everybody": along.has(OTHERS, READ), "writable-by-everybody": along.has(OTHERS, WRITE),
@@ -234,10 +173,10 @@ def findings_of(world: World, along: Rights, alone: Rights) -> Dict[str, Set[Tup
             "writer-outside-groups": outsiders(world, along)}
 
 
-def compare_findings(world: World, along: Rights, alone: Rights) -> Tuple[int, int]:
+def compare_findings(world: Audited, along: Rights, alone: Rights) -> Tuple[int, int]:
     count = differ = 0
     for name, wanted in findings_of(world, along, alone).items():
-        found = json.loads(world.command("facl-audit", "--json", "--list", name, world.snapshot))["findings"]
+        found = json.loads(world.command("facl-audit", "--json", "--list", name, world.snapshot, wanted=(0, 1)))["findings"]
         files = [it for kind in found for it in kind["files"]]
         is_of_users = name == "writer-outside-groups"
         said = {(it["path"], user) for it in files for user in (
@@ -255,9 +194,8 @@ def main() -> int:
     hard = resource.getrlimit(resource.RLIMIT_NOFILE)[1]
     resource.setrlimit(resource.RLIMIT_NOFILE, (min(hard, given.files + 200), hard))
     with tempfile.TemporaryDirectory(prefix="facl-auditors.") as work:
-        os.chmod(work, 0o755)
-        world = World(work, given)
-        world.command("facl-snapshot", "--quiet", "--program", world.program, world.snapshot, world.top)
+        world = Audited(work, given)
+        world.take_snapshot()
         along, alone = (Rights(world, granted) for granted in ask_kernel(world))
         rules = compare_rules(world, along, given.rules)
         rules_alone = compare_rules(world, alone, given.rules // 3, "--file-alone")

@@ -16,26 +16,24 @@ from __future__ import annotations
 import argparse
 import json
 import os
-import random
 import shutil
 import subprocess
 import sys
 import tempfile
 from collections import Counter
-from typing import Callable, Dict, List, Optional, Set, Tuple
+from typing import Callable, Dict, List, Set, Tuple
 
 from lib.answers import components
-from lib.script import Failed, TOP, WITH_PEOPLE
+from lib.random_world import FIRST_GID, FIRST_UID, PERMS, World, printed
+from lib.script import Failed, TOP
 from lib.session import conclude, options_of
 
 REQUESTS = ["---", "--x", "-w-", "-wx", "r--", "r-x", "rw-", "rwx"]
 ABSENT, NONE = "absent", "none"
 OPTIONS = ["--json", "--all-users", "--with-root"]
 MOST_FAULTS = 20
-NAMES = [b"a", b"b c", b"d\ne", b"f\\g", b"h'i", b"-j", b"=k", b"#l", b"\xff", "ü".encode(), b"m.txt", b"n\to", b":p,"]
-USERS = [b"anna", b"bert carla", b"=dora", b"emil#", b"\xfffritz", "gül".encode(), b"-hans", b"1007", b"ida\\", b"jan"]
-PERMISSIONS = ["---", "r--", "rw-", "r-x", "rwx", "--x", "-wx"]
-FIRST_UID, FIRST_GID = 71000, 72000
+NAMES = ["a", "b c", "d\ne", "f\\g", "h'i", "-j", "=k", "#l", os.fsdecode(b"\xff"), "ü", "m.txt", "n\to", ":p,"]
+USERS = ["anna", "bert carla", "=dora", "emil#", os.fsdecode(b"\xfffritz"), "gül", "-hans", "1007", "ida\\", "jan"]
 ELSE = b"everybody\\040else"  # As `index` has the name.
 Change = Tuple[bytes, str, str]  # A user, with the right before and after.
 Path = Tuple[bytes, ...]
@@ -44,129 +42,113 @@ VIEWS: Tuple[List[str], ...] = ([], ["--file-alone"])
 FORMS: Dict[str, List[str]] = {"edits": [], "records": ["/"], "folder": []}  # The last one gets a folder.
 
 
-def tool(*words: object, text: Optional[bytes] = None, **variables: str) -> bytes:
-    """What a command prints, which has to end with the status 0."""
-    plain = [it if isinstance(it, bytes) else os.fsencode(str(it)) for it in words]
-    done = subprocess.run(plain, env=os.environ | variables, input=text, capture_output=True, check=False)
-    if done.returncode:
-        raise Failed(f"{plain[0]!r} ended with status {done.returncode}: {done.stderr[-300:]!r}")
-    return done.stdout
+class States(World):
+    """A tree whose names have what is odd in names, and which changes, as do its users and groups."""
 
-
-class World:
-    """A tree with its users and groups, who are in files of its own."""
+    perms = (*PERMS, "-wx")
 
     def __init__(self, work: str, given: argparse.Namespace, seed: int) -> None:
-        self.work, self.given, self.chance = os.fsencode(work), given, random.Random(seed)
-        self.top = os.path.join(self.work, b"tree")
-        os.mkdir(self.top, 0o755)
-        os.chmod(work, 0o755)
-        self.users: List[List[bytes]] = []
-        self.groups: List[List[bytes]] = [[b"all", b"x", b"%d" % FIRST_GID, b""]]
-        for _ in range(given.users):
-            self.add_user()
-            self.add_group()
-        for _ in range(given.files):
-            self.make()
-        for _ in range(given.users):
-            self.change_members()
+        self.passwd: List[List[str]] = []
+        self.group: List[List[str]] = [["all", "x", str(FIRST_GID), ""]]
+        super().__init__(work, given, seed)
+        for change in (self.add_user, self.add_group, self.change_members):
+            for _ in range(self.users):
+                change()
 
     # --- people
 
-    def uid(self) -> int:
-        return FIRST_UID + self.chance.randrange(2 * self.given.users)
+    def any_uid(self) -> str:
+        return str(FIRST_UID + self.chance.randrange(2 * self.users))
 
-    def gid(self) -> int:
-        return FIRST_GID + self.chance.randrange(self.given.users)
+    def any_gid(self) -> str:
+        return str(FIRST_GID + self.chance.randrange(self.users))
 
     def add_user(self) -> None:
-        name = self.chance.choice(USERS) + self.chance.choice([b"", b"", b"2"])
-        if all(name != row[0] for row in self.users):
-            rows = [int(row[2]) for row in self.users]
-            free = [it for it in range(FIRST_UID, FIRST_UID + 3 * self.given.users) if it not in rows]
-            uid = self.chance.choice(free) if self.chance.random() < 0.95 else self.uid()
-            self.users.append([name, b"x", b"%d" % uid, b"%d" % self.gid(), b"", b"/", b"/bin/sh"])
+        name = self.chance.choice(USERS) + self.chance.choice(["", "", "2"])
+        if all(name != row[0] for row in self.passwd):
+            taken = {row[2] for row in self.passwd}
+            free = [it for it in map(str, range(FIRST_UID, FIRST_UID + 3 * self.users)) if it not in taken]
+            uid = self.chance.choice(free) if self.chance.random() < 0.95 else self.any_uid()
+            self.passwd.append([name, "x", uid, self.any_gid(), "", "/", "/bin/sh"])
 
     def remove_user(self) -> None:
-        if len(self.users) > 2:
-            self.users.remove(self.chance.choice(self.users))
+        if len(self.passwd) > 2:
+            self.passwd.remove(self.chance.choice(self.passwd))
 
     def change_user(self) -> None:
-        row = self.chance.choice(self.users)
+        row = self.chance.choice(self.passwd)
         field = self.chance.choice([2, 3, 3, 3])
-        row[field] = b"%d" % (self.uid() if field == 2 and self.chance.random() < 0.5 else self.gid() if field == 3
-                              else int(row[2]) + 100)
+        row[field] = self.any_gid() if field == 3 else self.any_uid() if self.chance.random() < 0.5 else str(int(row[2]) + 100)
 
     def add_group(self) -> None:
-        name = b"g%d" % self.chance.randrange(3 * self.given.users)
-        if all(name != row[0] for row in self.groups):
-            self.groups.append([name, b"x", b"%d" % self.gid(), b""])
+        name = f"g{self.chance.randrange(3 * self.users)}"
+        if all(name != row[0] for row in self.group):
+            self.group.append([name, "x", self.any_gid(), ""])
 
     def change_group(self) -> None:
-        row = self.chance.choice(self.groups)
+        row = self.chance.choice(self.group)
         how = self.chance.randrange(4)
-        if how == 0 and len(self.groups) > 2:
-            self.groups.remove(row)
+        if how == 0 and len(self.group) > 2:
+            self.group.remove(row)
         elif how == 1:
-            row[2] = b"%d" % self.gid()
+            row[2] = self.any_gid()
         elif how == 2:
-            row[0] += b"-"
+            row[0] += "-"
         else:
-            self.chance.shuffle(self.groups)
+            self.chance.shuffle(self.group)
 
     def change_members(self) -> None:
-        row = self.chance.choice(self.groups)
-        names = [it for it in row[3].split(b",") if it]
-        name = self.chance.choice([it[0] for it in self.users] + [b"nobody-there"])
-        if b"," not in name:
+        row = self.chance.choice(self.group)
+        names = [it for it in row[3].split(",") if it]
+        name = self.chance.choice([it[0] for it in self.passwd] + ["nobody-there"])
+        if "," not in name:
             names = [it for it in names if it != name] if name in names else [*names, name]
-        row[3] = b",".join(names)
+        row[3] = ",".join(names)
 
     def write_people(self) -> None:
-        for name, rows in (("passwd", self.users), ("group", self.groups)):
-            with open(os.path.join(self.work, name.encode()), "wb") as file:
-                file.write(b"".join(b":".join(row) + b"\n" for row in rows))
+        self.write_rows(self.passwd, self.group)
 
     # --- files
 
-    def paths(self, folders: bool = False) -> List[bytes]:
+    def paths(self, folders: bool = False) -> List[str]:
         found = [self.top]
         for folder, names, files in os.walk(self.top):
             found += [os.path.join(folder, it) for it in sorted(names + ([] if folders else files))]
         return found
 
-    def new_path(self) -> bytes:
-        name = self.chance.choice(NAMES) + self.chance.choice([b"", b"1", b"2", b" "])
-        return os.path.join(self.chance.choice(self.paths(folders=True)), name)
+    def new_place(self) -> str:
+        return os.path.join(self.chance.choice(self.paths(folders=True)), self.chance.choice(NAMES) + self.chance.choice(["", "1", "2", " "]))
 
-    def make(self) -> None:
-        path = self.new_path()
-        if not os.path.lexists(path):
-            tool("mkdir" if self.chance.random() < 0.35 else "touch", "--", path)
-            self.dress(path)
-            self.dress(path)
+    def make(self, place: str) -> None:
+        if not os.path.lexists(place):
+            printed(["mkdir" if self.chance.random() < 0.35 else "touch", "--", place])
+            self.files.append(place)
+            self.dress(place)
+
+    def make_new(self) -> None:
+        self.make(self.new_place())
 
     def entry(self) -> str:
-        who = self.chance.choice([f"u:{self.uid()}", f"g:{self.gid()}", f"u:{self.uid()}", "u:", "g:", "o:", "m:"])
-        return f"{who}:{self.chance.choice(PERMISSIONS)}"
+        who = self.chance.choice([f"u:{self.any_uid()}", f"g:{self.any_gid()}", f"u:{self.any_uid()}", "u:", "g:", "o:", "m:"])
+        return f"{who}:{self.chance.choice(self.perms)}"
 
-    def dress(self, path: bytes) -> None:
+    def dress(self, place: str) -> None:
         how = self.chance.randrange(7)
         if how == 0:
             modes = ["755", "750", "711", "700", "644", "640", "2775", "1777", "4711"]
-            tool("chmod", self.chance.choice(modes), "--", path)
+            printed(["chmod", self.chance.choice(modes), "--", place])
         elif how == 1:
-            tool("chown", f"{self.uid()}:{self.gid()}", "--", path)
-        elif how == 2 and os.path.isdir(path):
-            tool("setfacl", "-d", "-m", self.entry(), "--", path)
+            printed(["chown", f"{self.any_uid()}:{self.any_gid()}", "--", place])
+        elif how == 2 and os.path.isdir(place):
+            printed(["setfacl", "-d", "-m", self.entry(), "--", place])
         elif how == 3:
-            tool("setfacl", "-b", "--", path)
+            printed(["setfacl", "-b", "--", place])
         elif how == 4:
-            tool("setfacl", "-R", "-m", self.entry().replace("m:", "o:"), "--", path)
+            printed(["setfacl", "-R", "-m", self.entry().replace("m:", "o:"), "--", place])
         else:
-            entries = {it.rpartition(":")[0]: it for it in (self.entry(), f"u:{self.uid()}:rwx", "m::rwx")}
+            entries = {it.rpartition(":")[0]: it for it in (self.entry(), f"u:{self.any_uid()}:rwx", "m::rwx")}
             mask = ["-n"] if self.chance.random() < 0.5 else []
-            tool("setfacl", *mask, "-m", ",".join(entries.values()), "--", path)
+            printed(["setfacl", *mask, "-m", ",".join(entries.values()), "--", place])
 
     def change_list(self) -> None:
         self.dress(self.chance.choice(self.paths()))
@@ -174,40 +156,34 @@ class World:
     def remove(self) -> None:
         paths = self.paths()[1:]
         if paths:
-            tool("rm", "-r", "--", self.chance.choice(paths))
+            printed(["rm", "-r", "--", self.chance.choice(paths)])
 
     def move(self) -> None:
-        paths, target = self.paths()[1:], self.new_path()
+        paths, target = self.paths()[1:], self.new_place()
         source = self.chance.choice(paths) if paths else target
-        if not os.path.lexists(target) and not (target + b"/").startswith(source + b"/"):
-            tool("mv", "--", source, target)
+        if not os.path.lexists(target) and not (target + "/").startswith(source + "/"):
+            printed(["mv", "--", source, target])
 
     def become_other(self) -> None:
         """A file in the place of a directory, or the other way round."""
         path = self.chance.choice(self.paths())
         if path != self.top:
             is_directory = os.path.isdir(path)
-            tool("rm", "-r", "--", path)
-            tool("touch" if is_directory else "mkdir", "--", path)
+            printed(["rm", "-r", "--", path])
+            printed(["touch" if is_directory else "mkdir", "--", path])
             if not is_directory and self.chance.random() < 0.5:
-                tool("touch", "--", os.path.join(path, b"new"))
+                printed(["touch", "--", os.path.join(path, "new")])
 
     def edit(self) -> None:
         changes: List[Callable[[], None]] = [
-            self.change_list, self.change_list, self.change_list, self.make, self.remove, self.move, self.become_other,
+            self.change_list, self.change_list, self.change_list, self.make_new, self.remove, self.move, self.become_other,
             self.add_user, self.remove_user, self.change_user, self.add_group, self.change_group, self.change_members,
             self.change_members]
         self.chance.choice(changes)()
 
-    def snapshot(self, name: str) -> str:
+    def record(self, name: str) -> str:
         self.write_people()
-        target = os.path.join(os.fsdecode(self.work), name)
-        command = os.path.join(TOP, "commands", "facl-snapshot")
-        done = subprocess.run([WITH_PEOPLE, self.work, command, "--quiet", target, self.top], capture_output=True, check=False,
-                              env=os.environ | {"FACL": self.given.program})
-        if done.returncode not in (0, 1):
-            raise Failed(f"facl-snapshot ended with status {done.returncode}: {done.stderr[-300:]!r}")
-        return target
+        return self.take_snapshot(name)
 
 
 # --- what is expected
@@ -223,7 +199,7 @@ def rights_of(program: str, snapshot: str) -> Tuple[Rights, Dict[Path, bytes]]:
              *(word for name in ("group", "dump") for word in ("--" + name, os.path.join(snapshot, name)))]
     found: Rights = {}
     names: Dict[Path, bytes] = {}
-    for line in tool(program, *words, text=b"index\n").split(b"\n")[:-1]:
+    for line in os.fsencode(printed([program, *words], "index\n")).split(b"\n")[:-1]:
         byte, user, name = line.split(b" ", 2)
         path = components(name)
         found.setdefault(path, {})[user] = int(byte, 16)
@@ -282,17 +258,17 @@ def shown(user: bytes) -> bytes:
 def check(given: argparse.Namespace, seed: int, seen: Counter[str]) -> List[str]:
     """What differs for one pair of states."""
     with tempfile.TemporaryDirectory(prefix="facl-diff-check.") as work:
-        world = World(work, given, seed)
-        before = world.snapshot("before")
+        world = States(work, given, seed)
+        before = world.record("before")
         for _ in range(world.chance.randrange(given.edits + 1)):
             world.edit()
-        after = world.snapshot("after")
+        after = world.record("after")
         sides = rights_of(given.program, before), rights_of(given.program, after)
         folder = world.chance.choice(world.paths())
         faults = []
         for form, folders in FORMS.items():
-            asked = [os.fsdecode(folder)] if form == "folder" else folders
-            below = components(folder.replace(b"\\", b"\\\\")) if form == "folder" else ()
+            asked = [folder] if form == "folder" else folders
+            below = components(os.fsencode(folder).replace(b"\\", b"\\\\")) if form == "folder" else ()
             for view in VIEWS:
                 wanted = {(shown(user), old, new): (count, plain(first)) for (user, old, new), (count, first) in
                           expected(sides[0], sides[1], not view, below).items()}

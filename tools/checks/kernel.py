@@ -17,119 +17,37 @@ from __future__ import annotations
 
 import argparse
 import contextlib
-import ctypes
 import os
-import random
 import shutil
-import subprocess
 import tempfile
 from typing import Dict, Iterable, Iterator, List, NamedTuple, Set, Tuple
 
-from lib.script import Failed, TOP, WITH_PEOPLE
+from lib.random_world import AT_FDCWD, ELSE, PERMS, World, asked, opened, printed, show_odd
+from lib.script import Failed
 from lib.session import conclude, options_of
 
-LIBRARY = ctypes.CDLL(None, use_errno=True)
-AT_FDCWD, AT_EMPTY_PATH, AT_EACCESS = -100, 0x1000, 0x200
 LETTERS = {1: "x", 2: "w", 4: "r"}
-FIRST_UID, FIRST_GID = 71000, 72000
-ALL = FIRST_GID + 6  # The group of all users, after six others.
-NOBODYS = 73000  # An id of no user and no group.
-ELSE = "everybody else"
-PERMS = ("---", "r--", "rw-", "r-x", "rwx", "--x")
 VIEWS = ("alone", "along")
 EDITS = ("setfacl -m %s", "setfacl -m %s", "setfacl -m %s,m::---", "setfacl -m %s,m::r-x")
 Answer = Tuple[int, str, int]  # The number of a user, a file, and a request that is granted.
 Granted = Set[Answer]
 
 
-def printed(words: List[str], text: str = "", **variables: str) -> str:
-    """What a command prints, which has to end with the status 0."""
-    done = subprocess.run(words, env=os.environ | variables, input=text, capture_output=True, text=True, check=False)
-    if done.returncode:
-        raise Failed(f"{words[0]} ended with status {done.returncode}: {done.stderr[-300:]}")
-    return done.stdout
-
-
-class World:
-    """A tree, and its users and groups, who are in files of its own."""
-
-    def __init__(self, work: str, given: argparse.Namespace, seed: int) -> None:
-        self.work, self.program, self.users, self.chance = work, given.program, given.users, random.Random(seed)
-        self.top, self.snapshot = os.path.join(work, "tree"), os.path.join(work, "s")
-        self.groups = [[user for user in range(self.users) if self.chance.random() < 0.2] for _ in range(6)]
-        os.mkdir(self.top, 0o755)
-        self.files, folders = [self.top], [self.top]
-        while len(self.files) < given.files:
-            place = os.path.join(self.chance.choice(folders), f"n{len(self.files)}")
-            if self.chance.random() < 0.15:
-                os.mkdir(place)
-                folders.append(place)
-            else:
-                open(place, "wb").close()
-            self.files.append(place)
-        for place in self.files[1:]:
-            self.dress(place)
-        self.write_people()
-
-    def entry(self) -> str:
-        user, group = self.chance.randrange(self.users), self.chance.randrange(len(self.groups))
-        who = f"u:{FIRST_UID + user}" if self.chance.random() < 0.6 else f"g:{FIRST_GID + group}"
-        return who + ":" + self.chance.choice(PERMS)
-
-    def dress(self, place: str) -> None:
-        user, group = self.chance.randrange(self.users), self.chance.randrange(len(self.groups))
-        os.chown(place, FIRST_UID + user, FIRST_GID + group)
-        os.chmod(place, self.chance.choice((0o755, 0o750, 0o711, 0o700, 0o644, 0o640, 0o664, 0o604, 0o770)))
-        entries = sorted({self.entry() for _ in range(2)}) if self.chance.random() < 0.4 else []
-        if entries and self.chance.random() < 0.5:
-            entries.append("m::---")
-        elif self.chance.random() < 0.2:
-            entries.append("m::" + self.chance.choice(("r--", "r-x", "--x")))
-        if entries:
-            printed(["setfacl", "-m", ",".join(entries), place])
-
-    def write_people(self) -> None:
-        members = [",".join(f"k{user}" for user in users) for users in self.groups] + [""]
-        texts = {"passwd": "".join(f"k{it}:x:{FIRST_UID + it}:{ALL}::/:/bin/sh\n" for it in range(self.users)),
-                 "group": "".join(f"g{it}:x:{FIRST_GID + it}:{names}\n" for it, names in enumerate(members))}
-        for name, text in texts.items():
-            with open(os.path.join(self.work, name), "w", encoding="ascii") as file:
-                file.write(text)
-
-    def command(self, name: str, *words: str, text: str = "") -> str:
-        start = [WITH_PEOPLE, self.work] if name == "facl-snapshot" else []
-        return printed([*start, os.path.join(TOP, "commands", name), *words], text, FACL_LINUX=self.program)
-
-    def empty_masks(self) -> int:
-        """How many lists there are whose mask is empty, and whose others have something."""
-        records = printed(["getfacl", "-R", "-n", "-p", "-E", self.top]).split("\n\n")
-        return sum("\nmask::---" in it and "\nother::---" not in it for it in records)
-
-
-def asked(descriptor: int, name: bytes, request: int) -> bool:
-    """Whether the kernel grants the caller a request."""
-    return bool(LIBRARY.faccessat(descriptor, name, request, AT_EACCESS | (AT_EMPTY_PATH if not name else 0)) == 0)
+def empty_masks(world: World) -> int:
+    """How many lists there are whose mask is empty, and whose others have something."""
+    records = printed(["getfacl", "-R", "-n", "-p", "-E", world.top]).split("\n\n")
+    return sum("\nmask::---" in it and "\nother::---" not in it for it in records)
 
 
 def kernel(world: World, has_else: bool = False) -> Dict[str, Granted]:
-    """What the kernel grants all users, and after them everybody else: this process asks with the ids of each, as which it is not
-    the superuser."""
+    """What the kernel grants all users, and after them everybody else."""
     found: Dict[str, Granted] = {view: set() for view in VIEWS}
-    descriptors, groups = [os.open(path, os.O_PATH) for path in world.files], os.getgroups()
-    for user in range(world.users + has_else):
-        os.setgroups([FIRST_GID + number for number, members in enumerate(world.groups) if user in members])
-        os.setegid(ALL if user < world.users else NOBODYS)
-        os.seteuid(FIRST_UID + user if user < world.users else NOBODYS)
-        try:
-            for path, descriptor in zip(world.files, descriptors):
-                found["alone"] |= {(user, path, it) for it in range(1, 8) if asked(descriptor, b"", it)}
-                found["along"] |= {(user, path, it) for it in range(1, 8) if asked(AT_FDCWD, path.encode(), it)}
-        finally:
-            os.seteuid(0)
-            os.setegid(0)
-            os.setgroups(groups)
-    for descriptor in descriptors:
-        os.close(descriptor)
+    with opened(world.files) as descriptors:
+        for user in range(world.users + has_else):
+            with world.acting_as(user):
+                for path, descriptor in descriptors.items():
+                    found["alone"] |= {(user, path, it) for it in range(1, 8) if asked(descriptor, b"", it)}
+                    found["along"] |= {(user, path, it) for it in range(1, 8) if asked(AT_FDCWD, path.encode(), it)}
     return found
 
 
@@ -149,15 +67,10 @@ def commands(world: World) -> Dict[str, Granted]:
     return found
 
 
-def show_odd(odd: Iterable[Tuple[object, ...]]) -> None:
-    for it in sorted(odd, key=str)[:5]:
-        print("  differs:", *it)
-
-
 def compare(world: World, when: str) -> Tuple[int, int]:
     """How many answers there are, and how many differ, which are printed."""
     shutil.rmtree(world.snapshot, ignore_errors=True)
-    world.command("facl-snapshot", "--program", world.program, world.snapshot, world.top)
+    world.take_snapshot()
     one, other = kernel(world), commands(world)
     count, differ = world.users * len(world.files) * 7, 0
     for view in VIEWS:
@@ -177,7 +90,7 @@ def compare_plan(world: World) -> Tuple[int, int]:
     world.command("facl-apply", world.snapshot + ".plan")
     changed = {(user, path) for user, path, _ in before ^ kernel(world, has_else=True)["along"]}
     cells = [row.split("\t") for row in rows if "\t->\t" in row]
-    named = {(world.users if row[0] == ELSE else int(row[0][1:]), "/" + row[4].rstrip("/")) for row in cells}
+    named = {(world.users if row[0] == ELSE else int(row[0][1:]), row[4].rstrip("/")) for row in cells}
     odd = changed ^ named
     print(f"facl-plan: {len(changed)} pairs of a user and a file have other rights along paths, {len(odd)} differ")
     show_odd(odd)
@@ -205,7 +118,7 @@ def counted(world: World, granted: Iterable[Answer]) -> Dict[str, Tuple[str, str
     for user, path, request in granted:
         if request == 2:
             files.setdefault(user, []).append(path)
-    return {f"k{user}" if user < world.users else ELSE: (str(len(its)), min(its, key=lambda path: path.split("/")))
+    return {world.name(user): (str(len(its)), min(its, key=lambda path: path.split("/")))
             for user, its in files.items()}
 
 
@@ -214,12 +127,12 @@ def compare_marks(world: World) -> Tuple[int, int]:
     plain = world.files[1:]
     chosen = world.chance.sample(plain, len(plain) // 8)
     attributes = {"i": chosen[: len(chosen) * 2 // 3], "a": chosen[len(chosen) * 2 // 3 :]}
-    place = max((it for it in plain if os.path.isdir(it)), key=lambda it: sum(path.startswith(it + "/") for path in plain))
-    mounted = {path for path in world.files if path == place or path.startswith(place + "/")}
+    place = max((it for it in plain if os.path.isdir(it)), key=lambda it: len(world.below(it)))
+    mounted = set(world.below(place))
     unwritable, noexec = {*attributes["i"], *mounted}, {path for path in mounted if not os.path.isdir(path)}
     with marked(world, attributes, place):
         shutil.rmtree(world.snapshot)
-        world.command("facl-snapshot", "--program", world.program, world.snapshot, world.top)
+        world.take_snapshot()
         one, other = kernel(world, has_else=True), commands(world)
         rows = world.command("facl-who", "--tsv", "write", world.snapshot, world.top).splitlines()[1:]
     differ = 0
@@ -253,9 +166,8 @@ class Compared(NamedTuple):
 
 def compare_tree(given: argparse.Namespace, seed: int) -> Compared:
     with tempfile.TemporaryDirectory(prefix="facl-kernel.") as work:
-        os.chmod(work, 0o755)
         world = World(work, given, seed)
-        masks = world.empty_masks()
+        masks = empty_masks(world)
         before, rows, after = compare(world, "before"), compare_plan(world), compare(world, "after facl-apply")
         marks = compare_marks(world)
     return Compared(before[0] + after[0], marks[0], rows[0], masks, before[1] + rows[1] + after[1] + marks[1])

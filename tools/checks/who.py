@@ -17,20 +17,18 @@ from __future__ import annotations
 import json
 import os
 import re
-import stat
 import subprocess
 import tempfile
 from typing import Callable, Dict, Iterable, List, NamedTuple, Tuple
 
+from lib.random_world import FIRST_GID, FIRST_UID, World, asked, opened, printed
 from lib.script import Failed, TOP
 from lib.session import conclude, options_of
-from .kernel import ALL, FIRST_GID, FIRST_UID, World, asked, printed
 
 TEXTS = ["---", "--x", "-w-", "-wx", "r--", "r-x", "rw-", "rwx"]
 RIGHTS = {"read": 4, "write": 2, "enter": 1, "rw": 6, "rwx": 7}
 SAMPLE = 60  # Files that are renamed, and new files.
 DEPTH = 3
-ELSE = "everybody else"
 Rows = List[List[str]]
 
 
@@ -46,16 +44,12 @@ class Tree(World):
 
     def dress(self, place: str) -> None:
         super().dress(place)
-        if os.path.isdir(place):
-            flags = (stat.S_ISVTX if self.chance.random() < 0.3 else 0) | (stat.S_ISGID if self.chance.random() < 0.3 else 0)
-            os.chmod(place, stat.S_IMODE(os.stat(place).st_mode) | flags)
-            if self.chance.random() < 0.4:
-                printed(["setfacl", "-d", "-m", ",".join(sorted({self.entry() for _ in range(2)})), place])
+        if place in self.folders:
+            self.flag(place)
 
     def names(self) -> Dict[int, str]:
-        """What answers have for users, in their order; everybody else is a user of the next id, in the group of all alone, of
-        which no file is."""
-        return {self.users: ELSE, **{user: f"k{user}" for user in range(self.users)}}
+        """What answers have for users, in their order."""
+        return {user: self.name(user) for user in (self.users, *range(self.users))}
 
     def list_of(self, place: str) -> str:
         """What getfacl prints, by the names that the snapshot has."""
@@ -69,17 +63,17 @@ class Tree(World):
         child = os.fork()
         if child == 0:
             try:
-                os.setgroups([FIRST_GID + number for number, users in enumerate(self.groups) if user in users])
-                os.setresgid(ALL, ALL, ALL)
-                os.setresuid(*[FIRST_UID + user] * 3)
+                os.setgroups(self.groups_of(user))
+                os.setresgid(*[self.primary_group(user)] * 3)
+                os.setresuid(*[self.uid(user)] * 3)
                 os.umask(0o022)
                 os.write(writer, b" ")
-                with open(writer, "w", encoding="ascii") as out:
+                with open(writer, "w", encoding="utf-8") as out:
                     json.dump(call(), out)
             finally:
                 os._exit(0)
         os.close(writer)
-        with open(reader, encoding="ascii") as answer:
+        with open(reader, encoding="utf-8") as answer:
             text = answer.read()
         os.waitpid(child, 0)
         found: List[int] = json.loads(text)
@@ -105,18 +99,13 @@ def ordered(paths: Iterable[str]) -> List[str]:
     return sorted(paths, key=lambda path: path.split("/"))
 
 
-def below(paths: Iterable[str], folder: str) -> List[str]:
-    return [path for path in paths if path == folder or path.startswith(folder + "/")]
-
-
 def ask_kernel(tree: Tree) -> Rights:
-    descriptors = [os.open(path, os.O_PATH) for path in tree.files]
+    users = range(tree.users + 1)
     along = [tree.as_user(user, lambda: [sum(1 << it for it in range(1, 8) if os.access(path, it)) for path in tree.files])
-             for user in range(tree.users + 1)]
-    alone = [tree.as_user(user, lambda: [sum(1 << it for it in range(1, 8) if asked(descriptor, b"", it))
-                                         for descriptor in descriptors]) for user in range(tree.users + 1)]
-    for descriptor in descriptors:
-        os.close(descriptor)
+             for user in users]
+    with opened(tree.files) as descriptors:
+        alone = [tree.as_user(user, lambda: [sum(1 << it for it in range(1, 8) if asked(descriptor, b"", it))
+                                             for descriptor in descriptors.values()]) for user in users]
     return Rights(along, alone)
 
 
@@ -140,7 +129,7 @@ def wanted_rights(tree: Tree, granted: List[List[int]], folder: str) -> Rows:
     for user, name in tree.names().items():
         row, bits = [name], granted[user]
         for request in RIGHTS.values():
-            files = ordered(path for path in below(tree.files, folder) if bits[places[path]] >> request & 1)
+            files = ordered(path for path in tree.below(folder) if bits[places[path]] >> request & 1)
             row += [str(len(files)), files[0] if files else ""]
         if any(row[2::2]):
             rows.append(row)
@@ -168,7 +157,7 @@ def compare_users(tree: Tree, rights: Rights, compared: Compared) -> None:
     for user, name in tree.names().items():
         wanted, bits = [], bits_of[user]
         for folder in ordered(path for path in tree.files if os.path.isdir(path)):
-            files = below(tree.files, folder)
+            files = tree.below(folder)
             counts = [sum(bits[path] >> request & 1 for path in files) for request in (4, 2, 1)]
             if any(counts) and folder.count("/") - tree.top.count("/") <= DEPTH:
                 highest = "write" if counts[1] else "read" if counts[0] else "enter"
@@ -241,9 +230,8 @@ def main() -> int:
         raise Failed("at most 98 users")
     compared = Compared()
     with tempfile.TemporaryDirectory(prefix="facl-who.") as work:
-        os.chmod(work, 0o755)
         tree = Tree(work, given, given.seed)
-        tree.command("facl-snapshot", "--program", tree.program, tree.snapshot, tree.top)
+        tree.take_snapshot()
         rights = ask_kernel(tree)
         compare_rights(tree, rights, compared)
         compare_users(tree, rights, compared)
