@@ -15,7 +15,6 @@ from __future__ import annotations
 import argparse
 import os
 import re
-import sys
 from typing import Dict, Iterator, List, NamedTuple, Optional
 
 from lib import script
