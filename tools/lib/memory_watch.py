@@ -20,6 +20,7 @@ from .processes import Process
 MOST = 3_400_000_000
 MOST_OF = {"acl_rights": 4_000_000_000, "acl_rights_tests": 3_900_000_000, "facl_tests": 3_700_000_000, "facl": 3_600_000_000}
 SPARE = 300_000_000  # What rt and its scripts take.
+FORMATTER = b"fmt"  # A command of the prover that takes little memory, and which `rt ci` waits for before it checks a crate.
 
 
 class Check(NamedTuple):
@@ -34,12 +35,18 @@ class Check(NamedTuple):
     is_stopped: bool
 
 
+def words_of(process: Process) -> List[bytes]:
+    """The words of a process; none once it has ended."""
+    with contextlib.suppress(OSError):
+        return Path(f"/proc/{process.number}/cmdline").read_bytes().split(b"\0")
+    return []
+
+
 def check_of(process: Process, crates: Crates) -> Check:
     """The check of a process of the prover, by the crate that its words name. It is the crate's proof where it works in the
     crate's folder."""
-    words, folder = [b""], ""
+    words, folder = words_of(process), ""
     with contextlib.suppress(OSError):
-        words = Path(f"/proc/{process.number}/cmdline").read_bytes().split(b"\0")
         folder = os.path.basename(os.readlink(f"/proc/{process.number}/cwd"))
     crate = next((word for option, word in zip(words, words[1:]) if option == b"--crate-name"), b"").decode()
     waiting = crates.above(crate) if folder == crate and b"--test" not in words else 0
@@ -77,7 +84,7 @@ class MemoryWatch:
 
     def update(self, processes: List[Process], free: int) -> None:
         """Stops or continues at most one of the checks that run now. `free` is the free memory, in bytes."""
-        checks = [check_of(process, self.crates) for process in processes]
+        checks = [check_of(it, self.crates) for it in processes if words_of(it)[1:2] != [FORMATTER]]
         for check in checks:
             if check.crate in self.crates.uses:  # Tests of the gate have others.
                 self.most[check.crate] = max(self.most.get(check.crate, 0), check.held)

@@ -11,6 +11,7 @@ import tempfile
 import time
 import unittest
 from typing import Dict, List, Optional, Tuple
+from unittest import mock
 
 from lib import lanes, memory_watch, processes
 from lib.lanes import Room
@@ -180,6 +181,12 @@ class Memory(unittest.TestCase):
         self.assertEqual(watch.most, {"": 5_940_000_000})
         watch.most = {crate: number * 1_000_000_000 for number, crate in enumerate("abcdef")}
         self.assertEqual(watch.report().partition("held: ")[2], "f 5.0 GB, e 4.0 GB, d 3.0 GB, c 2.0 GB, b 1.0 GB, a 0.0 GB")
+
+    def test_the_formatter_never_waits(self) -> None:
+        watch = memory_watch.MemoryWatch()
+        with mock.patch.object(memory_watch, "words_of", return_value=[b"rattle", b"fmt", b"--check"]):
+            watch.update([Process(number, "rattle", 1, 1, 1, False) for number in (-2, -1)], 0)
+        self.assertEqual((watch.stops, watch.most), (0, {}))
 
     def test_processes_stop_and_continue(self) -> None:
         programs = [subprocess.Popen(["sleep", "600"]) for _ in range(2)]
