@@ -7,8 +7,8 @@ import os
 import re
 import signal
 import subprocess
+import sys
 import termios
-from types import FrameType
 from typing import Callable, Dict, Iterable, Iterator, List, NoReturn, Optional
 
 from ..base.environment import environment_of_called
@@ -71,11 +71,10 @@ def parse(words: List[str]) -> argparse.Namespace:
                         help="answer standard input over the snapshots of several servers, NAME:DIR")
     parser.add_argument("--timeout", metavar="SECONDS", type=seconds_of,
                         help=f"with --each and --hosts: how long another machine may take ({SECONDS})")
-    parser.add_argument("--records", action="store_true", help=argparse.SUPPRESS)  # With --part: what it records, too.
-    # With --part: a file that other snapshots have too.
+    # What --each and --hosts run for each; with it: what is recorded, too; a file that others have, too; a user in answers.
+    parser.add_argument("--part", action="store_true", help=argparse.SUPPRESS)
+    parser.add_argument("--records", action="store_true", help=argparse.SUPPRESS)
     parser.add_argument("--shared", action="append", default=[], help=argparse.SUPPRESS)
-    parser.add_argument("--part", action="store_true", help=argparse.SUPPRESS)  # What --each runs for each of them.
-    # With --part: that user is in answers, too.
     parser.add_argument("--everybody", metavar="NAME:ID", help=argparse.SUPPRESS)
     sources.add_source(parser, words)
     parser.add_argument("scripts", metavar="SCRIPT", nargs="*", default=[])
@@ -152,8 +151,7 @@ def answer_units(
     command: Command, session: Session, units: Iterable[Unit], answers: Optional[ElseAnswers] = None, is_explained: bool = True,
     place_of: Callable[[Unit], bytes] = lambda unit: unit.place(),
 ) -> int:
-    """Answers lines one after another; those of a session with everybody else each below its question. At a terminal `why` has
-    marks."""
+    """Answers lines one by one; those of a session with everybody else below their questions. At a terminal `why` has marks."""
     status, is_terminal = ANSWERED, os.isatty(1)
     marks = marks_of(session.folder) if is_terminal else NO_MARKS
     for unit in units:
@@ -187,16 +185,12 @@ def answer_input(command: Command, program: str, folder: bytes, name: Optional[b
         return answer_units(command, session, units, None, name is not None, lambda unit: b"line %d" % unit.number)
 
 
-def leave(number: int, _frame: Optional[FrameType]) -> None:
-    raise SystemExit(128 + number)
-
-
 def take_signals() -> None:
     """At a prompt control-C ends a line, and not the command; the other signals end it as the one exception that
     prompt_toolkit's loop of events lets through at any moment."""
     for number in SIGNALS:
         if signal.getsignal(number) != signal.SIG_IGN:
-            signal.signal(number, signal.default_int_handler if number == signal.SIGINT else leave)
+            signal.signal(number, signal.default_int_handler if number == signal.SIGINT else lambda it, _: sys.exit(128 + it))
 
 
 @contextlib.contextmanager
@@ -220,12 +214,11 @@ def dim(line: bytes) -> bytes:
 def run_prompt(command: Command, program: str, source: Source, given: argparse.Namespace) -> int:
     """Answers a person's lines. Only a prompt needs these parts of the package."""
     from ..model.superuser import Superusers, ids_in
-    from . import manual, terminal
-    from .completion import Completer
-    from .prompt import WORDS_OF_PROMPT, Prompt, refuse_early_end
+    from .completion import Completer, read_page
+    from .prompt import WORDS_OF_PROMPT, Prompt, find_toolkit, reader
 
     found, about = overview.read_texts(source.folder), meta.meta_of(source.folder)
-    completer = Completer(manual.read_page(), found.passwd, found.group, lambda: found.dump, WORDS_OF_PROMPT)
+    completer = Completer(read_page(), found.passwd, found.group, lambda: found.dump, WORDS_OF_PROMPT)
 
     def out(text: bytes) -> None:
         command.write(text)
@@ -238,14 +231,14 @@ def run_prompt(command: Command, program: str, source: Source, given: argparse.N
     prompt = Prompt(lambda: Session(program, source.folder, texts), completer, out, dim, superusers,
                     marks_of(source.folder), answers, beside(about), not given.file_alone)
     with kept_terminal(), contextlib.closing(prompt):
-        refuse_early_end(prompt.session)
+        prompt.session.ask(b"")  # Fails where the program does not load the snapshot.
         out(shown(overview.summary(found, meta.named(source.shown, about))) + b"; `help` lists the tools, control-D ends\n")
         overview.say_notices(command, source, given.acl5)
         for warning in overview.warnings(found):
             command.say(warning)
-        if terminal.find_toolkit() is None:
+        if find_toolkit() is None:
             command.say(b"without python3-prompt-toolkit, which is not installed: no completion")
-        prompt.run(terminal.reader(completer))
+        prompt.run(reader(completer))
     return ANSWERED
 
 
@@ -284,11 +277,11 @@ def body(command: Command, words: List[str]) -> int:
     if given.each and given.hosts:
         raise Failure(b"--each is for parts of one tree, and --hosts for servers: give one of them")
     if given.each or given.hosts:
-        from .parts import hosts, join
+        from .parts import several
 
         if given.dump is not None:
             raise Failure(b"--dump is one dump: make a folder of passwd, group and dump for each of several")
-        answer = join.body if given.each else hosts.body
+        answer = several.answer_parts if given.each else several.answer_hosts
         return answer(command, [given.snapshot, *given.scripts], given)
     with sources.opened(given) as source:
         return answer_one(command, given, source)

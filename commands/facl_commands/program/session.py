@@ -76,7 +76,7 @@ class Answer(NamedTuple):
 
 
 class Session:
-    """A run of the program over the texts of a snapshot's folder, which it gets as open files: it reads what the command has read.
+    """A run of the program over the texts of a snapshot's folder, which it gets as open files: those that the command has read.
 
     What it prints goes to a file, so that it never waits for a reader. A line that it has to refuse, with a word that
     nobody can guess, comes after each of ours: when its message is read, all before it is answered.
