@@ -11,6 +11,7 @@ import sys
 import termios
 from typing import Callable, Dict, Iterable, Iterator, List, NoReturn, Optional
 
+from ..base.attempts import failing
 from ..base.environment import environment_of_called
 from ..base.folders import folder_of
 from ..base.messages import SIGNALS, Command, Failure, parser_of, reason
@@ -91,11 +92,9 @@ def seconds_of(word: str) -> int:
 
 def take_script(script: str) -> None:
     """Makes a script by name the standard input."""
-    try:
+    with failing(os.fsencode(script), True):
         descriptor = open_script(script)
         os.read(descriptor, 0)  # A folder cannot be read.
-    except OSError as error:
-        raise Failure(os.fsencode(script) + b": " + reason(error)) from error
     if os.fstat(descriptor).st_size > MOST_WRITTEN:  # The program ends at as many of a device.
         raise too_large(os.fsencode(script), MOST_WRITTEN)
     os.dup2(descriptor, 0)
@@ -115,8 +114,7 @@ def run_explained(command: Command, program: str, source: Source, name: Optional
     """Runs the program over the standard input, and returns its status. Where that is a script by name, what was probably
     meant comes below each message. A terminal gets messages without what it obeys."""
     units: Optional[Dict[int, Unit]] = None if name is not None else {}
-    is_terminal = os.isatty(2)
-    texts = folder_of(source.folder)
+    texts, is_terminal = folder_of(source.folder), os.isatty(2)
     words, files = texts.command(program)
     with subprocess.Popen(words, stderr=subprocess.PIPE, pass_fds=files, env=environment_of_called()) as run:
         assert run.stderr is not None
@@ -167,8 +165,11 @@ def answer_units(
     return status
 
 
-def answer_with_headings(command: Command, program: str, folder: bytes, units: List[Unit]) -> int:
-    """Answers lines as a person reads them, each below its question, and with everybody else."""
+def answer_scripts(command: Command, program: str, folder: bytes, units: List[Unit], has_headings: bool) -> int:
+    """Answers lines; with headings as a person reads them, each below its question, and with everybody else."""
+    if not has_headings:
+        with Session(program, folder) as session:
+            return answer_units(command, session, units)
     texts = people_in(folder)
     answers = answers_over(folder, texts.passwd, units)
     with session_with(program, folder, *answers.everybody.with_both(texts)) as session:
@@ -255,10 +256,7 @@ def answer_one(command: Command, given: argparse.Namespace, source: Source) -> i
     if len(given.scripts) > 1 or given.headings:
         overview.say_notices(command, source, given.acl5)
         units = [unit for name in given.scripts or ["-"] for unit in read_text(name).units()]
-        if given.headings:
-            return answer_with_headings(command, program, source.folder, units)
-        with Session(program, source.folder) as session:
-            return answer_units(command, session, units)
+        return answer_scripts(command, program, source.folder, units, given.headings)
     name = None if given.scripts in ([], ["-"]) else os.fsencode(given.scripts[0])
     if name is not None:
         take_script(given.scripts[0])

@@ -16,13 +16,11 @@ from ..base.messages import Failure
 from ..base.progress import AT
 from .protocol import IN_LINE, PROBE, PROBE_REFUSED, SETUP, UNKNOWN_TOOL, has_text
 
-OLDER = b": it is older than this command, so install both anew"
 LINE_ROOM = 60_000  # Bytes of words in a line that a command asks; a line may have 65,536, with those before them.
 LINES_ROOM = 1 << 20  # Bytes of lines that are asked at once.
 PIECE = 1 << 16  # Bytes that are written or read at once.
 MOST = 67_108_864  # Bytes of messages to lines that are written at once.
 SILENCE = 2.0  # Seconds without a byte, after which a program that cannot answer any more is given up.
-LONGEST_CAUSE = 1_000  # Bytes of the last message that are quoted.
 NUMBER = re.compile(rb"\Aline [0-9]+: ")  # The beginning of a message.
 
 
@@ -128,8 +126,8 @@ class Session:
         """Answers a line of our own, which cannot be refused."""
         answer = self.ask(line + b"\n")
         if answer.messages:
-            is_old = has_text(answer.messages[0], UNKNOWN_TOOL)
-            raise Failure(b"the program refused `%s`: %s" % (line.split(b"\n")[0], answer.messages[0]) + OLDER * is_old)
+            older = b": it is older than this command, so install both anew" * has_text(answer.messages[0], UNKNOWN_TOOL)
+            raise Failure(b"the program refused `%s`: %s" % (line.split(b"\n")[0], answer.messages[0]) + older)
         return answer.output
 
     def exchange(self, text: bytes, end: bytes) -> bytes:
@@ -162,7 +160,7 @@ class Session:
 
     def early_end(self, messages: bytes) -> Failure:
         """Why the program ended before it was asked to."""
-        last = messages.rstrip(b"\n").rpartition(b"\n")[2][:LONGEST_CAUSE]
+        last = messages.rstrip(b"\n").rpartition(b"\n")[2][:1_000]
         if not last:
             try:
                 last = b"status %d" % self.process.wait(SILENCE)

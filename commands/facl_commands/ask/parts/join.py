@@ -58,8 +58,7 @@ def first_files(unit: Unit, joined: Joined) -> Joined:
 
 
 def refusal_of(unit: Unit, messages: List[List[bytes]], lacks: List[List[bytes]]) -> List[bytes]:
-    """The message of a line that is refused: one that is not about a missing file, or one about the first file that no
-    snapshot has."""
+    """The message of a refused line: one that is not about a missing file, or one about the first file that no snapshot has."""
     for its in messages:
         if is_refused(its) and not lacks_file(its):
             return its
@@ -132,8 +131,7 @@ def is_recursive(unit: Unit) -> bool:
 
 
 def join_refusals(unit: Unit, answers: List[Answered]) -> Joined:
-    """The message of a line that no snapshot accepts: one that is not about a missing file comes first, and then one
-    about a file that no snapshot has."""
+    """The message of a line that no snapshot accepts: that of another fault, else one about a file that no snapshot has."""
     messages = [it.header.messages for it in answers]
     others = [it for it in messages if not lacks_file(it)]
     known = {read_path(write_name(name)) for it in answers for name in it.header.has}

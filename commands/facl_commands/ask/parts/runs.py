@@ -27,13 +27,9 @@ HOST = re.compile(rb"((?:" + NAME_OF_HOST + rb"@)?" + NAME_OF_HOST + rb"):(.*)\Z
 LIKE_HOST = re.compile(rb"[A-Za-z0-9@._-]+:|-[^/]*:")  # What somebody may have meant for a host.
 HERE = b""  # The host of a snapshot on this machine.
 THIS = b"localhost"  # The name of this machine as a server, which needs no ssh.
-PATIENCE = 10  # Seconds that a run has to end after SIGTERM.
 MOST_READ = 16_777_216  # Bytes of another machine's answers that are read into memory.
 MOST_WRITTEN = 1 << 32  # Bytes that it may write into one file, where there is room.
-MOST_SAID = 10_000  # Bytes of its messages in which the first one is looked for.
 CUT = b"a snapshot did not answer to the end"
-NAME = b"facl-ask: "  # Before a message of it.
-NOT_FOUND = 127  # The status of a shell that finds no such command.
 NOT_READABLE = b"an answer cannot be read; facl may be of another version there"
 OTHER_VERSION = b"facl there is of another version, which does not take what this one asks"
 
@@ -108,8 +104,8 @@ def part_options(given: argparse.Namespace, everybody: Everybody) -> List[bytes]
 
 
 def run_all(servers: List[Server], options: Sequence[bytes], script: bytes, seconds: int = SECONDS) -> List[Outcome]:
-    """Runs facl-ask over all snapshots side by side, and reads what each wrote. Another machine has `seconds` for it,
-    and leaves the others room for as much as it writes."""
+    """Runs facl-ask over all snapshots side by side, and reads what each wrote. Another machine has `seconds` for it, and leaves
+    the others room for as much as it writes."""
     numbers = [unit.number for unit in read_script(b"", script)]
     runs: List[PartRun] = []
     with scratch.new_file("facl-ask.") as file:
@@ -129,8 +125,7 @@ def run_all(servers: List[Server], options: Sequence[bytes], script: bytes, seco
 
 
 class PartRun:
-    """A run of facl-ask over a snapshot, and what it wrote: each step of reading ends at the next byte that is not
-    read, or fails."""
+    """A run of facl-ask over a snapshot, and what it wrote: each step of reading ends at the next unread byte, or fails."""
 
     def __init__(self, server: Server, options: Sequence[bytes], script: IO[bytes], room: int, seconds: int) -> None:
         self.server, self.is_here, self.room, self.seconds = server, server.host == HERE, room, seconds
@@ -144,9 +139,9 @@ class PartRun:
             resource.prlimit(self.process.pid, resource.RLIMIT_CORE, (0, 0))
 
     def end(self) -> None:
-        """Waits for the end, after SIGTERM."""
+        """Waits ten seconds for the end, after SIGTERM."""
         try:
-            self.process.wait(PATIENCE)
+            self.process.wait(10)
         except subprocess.TimeoutExpired:
             self.process.kill()
             self.process.wait()
@@ -170,20 +165,19 @@ class PartRun:
         if not self.is_here and max(self.size, said) >= self.room:
             raise Failure(b"what it wrote takes more than the %d bytes that there is room for" % self.room)
         if self.process.returncode != 0:
-            raise Failure(self.reason(os.pread(self.messages.fileno(), MOST_SAID, 0)))
+            raise Failure(self.reason(os.pread(self.messages.fileno(), 10_000, 0)))
         if self.size == 0:
             raise Failure(b"did not answer")
         self.room = self.size if self.is_here else MOST_READ  # For what is kept in memory.
         self.out.seek(0)
 
     def reason(self, said: bytes) -> bytes:
-        """Why it ended, by the first of its messages. Where facl is not there, or does not take these words, that is of a
-        shell, or of another version."""
-        text = next(filter(None, said.splitlines()), b"").removeprefix(NAME)
+        """Why it ended, by the first of its messages, which may be that of a shell, or of another version."""
+        text = next(filter(None, said.splitlines()), b"").removeprefix(b"facl-ask: ")
         status = self.process.returncode
         if text.startswith((b"usage: ", b"facl: " + PART.encode())):
             return OTHER_VERSION
-        if status == NOT_FOUND and not self.is_here:
+        if status == 127 and not self.is_here:  # Of a shell that finds no such command.
             return b"facl is not on the path there" + (b": " + text if text else b"")
         return text or b"facl ended with status %d" % (status if status > 0 else 128 - status)
 

@@ -33,7 +33,6 @@ from .worker import SIZE, is_counting
 
 MOST_SHARED = 1_000  # Files that several snapshots may have,
 ROOM_FOR_SHARED = 60_000  # and bytes of their names, which are words of a command.
-DIFFERS = b", so they are no parts of one tree: ask servers by --hosts NAME:DIR.."
 LONGEST_LINE = 1 << 20  # Bytes; of a server's answer.
 
 
@@ -142,8 +141,7 @@ def answer_hosts(command: Command, words: List[str], given: argparse.Namespace) 
 
 
 def shared_files(parts: List[Part]) -> Dict[bytes, List[Tuple[bytes, bytes]]]:
-    """The paths that several snapshots record, each with the checksums of its records, and the snapshots. Only files in
-    directories that several have are kept (blocks_of in worker.py)."""
+    """The paths that several snapshots record, each with the checksums of its records (blocks_of), and the snapshots."""
     having = Counter(line.partition(b"\0")[0] for part in parts for line in part.files.lines())
     known: Dict[bytes, List[Tuple[bytes, bytes]]] = {}
     for part in parts:
@@ -221,7 +219,7 @@ def answer_script(command: Command, servers: List[Server], given: argparse.Names
     parts = run_parts(servers, [*[b"--records"] * (len(servers) > 1), *program], script.text, seconds)
     fault = differing_file(parts) or differing_id(parts)
     if fault is not None:
-        raise Failure(fault + DIFFERS)
+        raise Failure(fault + b", so they are no parts of one tree: ask servers by --hosts NAME:DIR..")
     say_notices(command, parts, given.acl5)
     shared = files_of_several(parts) if any(map(is_counting, units)) else []
     options = shared_options(shared)

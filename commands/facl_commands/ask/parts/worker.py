@@ -32,7 +32,6 @@ from ...program.tools import COUNTING, EDITS, FILE, MAKERS, OF_RECORDS, REACH, R
 
 COUNTING_SOME = tuple(tool for tool in COUNTING if tool in WITH_FILES)
 OF_FILES = (*EDITS, *OF_RECORDS, *COUNTING_SOME)  # Tools that take several FILEs, or edit one.
-LONGEST_NUMBER = 20  # Digits.
 SIZE = 16  # Letters of a checksum.
 RECORD = re.compile(b"^" + FREE_FILE_LINE + b"$", re.MULTILINE)
 
@@ -72,7 +71,7 @@ def line_of(value: NamedTuple) -> bytes:
 
 def short_number(text: str) -> int:
     """A number of JSON; the digits of one that is longer than any of ours are not read."""
-    if len(text) > LONGEST_NUMBER:
+    if len(text) > 20:
         raise ValueError
     return int(text)
 
@@ -205,9 +204,9 @@ def answer(command: Command, session: Session, unit: Unit, shared: SharedFiles) 
     output, messages = answer_unit(session, unit)
     if unit.is_of(*COUNTING_SOME) and lacks_file(messages) and has:
         output, messages = session.ask(of_some_files(unit, has) + b"\n")
-    is_taken = not is_refused(messages)
-    counted = shared.counted(unit) if is_taken and is_counting(unit) else []
-    if is_taken:
+    counted: List[bytes] = []
+    if not is_refused(messages):
+        counted = shared.counted(unit) if is_counting(unit) else []
         shared.follow(unit)
     command.write(line_of(Header(unit.number, output.end - output.start, messages, lacks, has, counted)))
     for piece in itertools.chain(output.pieces(), [b"\n"]):
@@ -226,14 +225,9 @@ def head_of(folder: bytes, size: int, is_acl5: bool) -> Head:
 def blocks_of(listings: Iterable[OutputSlice]) -> Iterator[bytes]:
     """What a snapshot records: the line of each directory, with names as the program prints them."""
     inside: Dict[bytes, List[bytes]] = {}
-    known: Dict[bytes, bytes] = {}
-    for record in records_in(listings):
-        file, body = split_record(record)
-        checksum = known.get(body)
-        if checksum is None:
-            checksum = known[body] = blake2b(body, digest_size=SIZE // 2).hexdigest().encode()
+    for file, body in map(split_record, records_in(listings)):
         above, _, name = file.rstrip(b"/").rpartition(b"/")
-        inside.setdefault(above, []).append(checksum + name)
+        inside.setdefault(above, []).append(blake2b(body, digest_size=SIZE // 2).hexdigest().encode() + name)
     for above, files in inside.items():
         yield above + b"\0" + b"\0".join(files) + b"\n"
 
