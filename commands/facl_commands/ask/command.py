@@ -7,8 +7,8 @@ import os
 import re
 import signal
 import subprocess
-import sys
 import termios
+from types import FrameType
 from typing import Callable, Dict, Iterable, Iterator, List, NoReturn, Optional
 
 from ..base.attempts import failing
@@ -186,12 +186,16 @@ def answer_input(command: Command, program: str, folder: bytes, name: Optional[b
         return answer_units(command, session, units, None, name is not None, lambda unit: b"line %d" % unit.number)
 
 
+def leave(number: int, _frame: Optional[FrameType]) -> None:
+    raise SystemExit(128 + number)
+
+
 def take_signals() -> None:
     """At a prompt control-C ends a line, and not the command; the other signals end it as the one exception that
     prompt_toolkit's loop of events lets through at any moment."""
     for number in SIGNALS:
         if signal.getsignal(number) != signal.SIG_IGN:
-            signal.signal(number, signal.default_int_handler if number == signal.SIGINT else lambda it, _: sys.exit(128 + it))
+            signal.signal(number, signal.default_int_handler if number == signal.SIGINT else leave)
 
 
 @contextlib.contextmanager

@@ -1,5 +1,4 @@
-"""Answers of the program to the lines of a script: which messages refuse a line, and how answers and messages are
-printed."""
+"""Answers of the program to the lines of a script, and how these and messages are printed."""
 from __future__ import annotations
 
 import os
@@ -22,8 +21,7 @@ def answer_unit(session: Session, unit: Unit) -> Answer:
 
 
 def write_messages(command: Command, place: bytes, unit: Unit, messages: List[bytes], begin: Optional[bytes] = b"") -> None:
-    """The messages of a line, after what was printed so far, each with its place; below it, after a beginning, what was
-    probably meant."""
+    """The messages of a line after what was printed so far, each with its place; below, after a beginning, what was meant."""
     command.flush()
     is_terminal = os.isatty(2)
     for message in messages:

@@ -25,8 +25,7 @@ NUMBER = re.compile(rb"\Aline [0-9]+: ")  # The beginning of a message.
 
 
 def cut(pieces: Iterable[bytes], end: bytes = b"\n", longest: Optional[int] = None) -> Iterator[List[bytes]]:
-    """The lines of a text that comes in pieces, without their ends: at once those that end in a piece; ValueError where
-    more than `longest` bytes have none."""
+    """The lines of a text in pieces, without ends, at once those that end in a piece; ValueError where one is longer."""
     rest = b""
     for piece in pieces:
         *whole, rest = (rest + piece).split(end)
@@ -131,12 +130,9 @@ class Session:
         return answer.output
 
     def exchange(self, text: bytes, end: bytes) -> bytes:
-        """Writes `text`, and returns the messages up to `end`, or all where the program ends before. Both are done at once, as
-        it need not read a line before its messages are read.
-
-        A program may take any time to answer. It cannot answer any more once it has ended, has closed its standard error,
-        or has closed its standard input before it took all of `text`.
-        """
+        """Writes `text`, and returns the messages up to `end`, or all where the program ends before; both at once, as it need not
+        read a line before its messages are read. It may take any time to answer, but cannot any more once it has ended, has
+        closed its standard error, or has closed its standard input before it took all of `text`."""
         left, found, is_closed = memoryview(text), bytearray(), False
         while True:
             readable, writable, _ = select.select([self.messages], [self.lines] if left else [], [], SILENCE)

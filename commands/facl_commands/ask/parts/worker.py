@@ -1,6 +1,5 @@
-"""The answers of one snapshot of several: what `facl-ask --part` writes for `--each` and `--hosts` of `facl ask`.
-
-On another machine `facl answer-part` runs it.
+"""The answers of one snapshot of several: what `facl-ask --part` writes for `--each` and `--hosts` of `facl ask`; on another
+machine `facl answer-part` runs it.
 
 First comes a line of JSON about the snapshot; with --records what it records, a line for each directory, with the name
 and a checksum of the record of each file in it. For each line of the script that does something there is a header,

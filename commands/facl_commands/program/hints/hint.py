@@ -68,8 +68,7 @@ def synopsis(tool: bytes) -> bytes:
 
 
 def of_usage(words: List[bytes]) -> Hint:
-    """Returns the synopsis, with the options that the tool does not have; and the line without them where they say nothing
-    here."""
+    """Returns the synopsis, with options that the tool does not have; and the line without them where they say nothing here."""
     tool, line = words[0], split(words)
     unknown = dict.fromkeys(it.name for it in line.given if it.name not in OPTIONS[tool])
     if not unknown:
@@ -98,8 +97,7 @@ def explained(unit: Unit, message: bytes) -> List[bytes]:
 
 
 def explained_by_number(units: Dict[int, Unit], message: bytes) -> List[bytes]:
-    """The same of a message as the program prints it, with the number of its line; units by the numbers of their
-    lines."""
+    """The same of a message as the program prints it, with the number of its line; units by these numbers."""
     found = re.match(rb"line ([0-9]+): (.*)\Z", message, re.DOTALL)
     unit = units.get(int(found[1])) if found else None
     return [] if found is None or unit is None else explained(unit, found[2])
