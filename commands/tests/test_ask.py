@@ -21,8 +21,8 @@ from common import COMMANDS, HERE, Case, Done, outside_the_gate, take_terminal
 
 sys.path.insert(0, COMMANDS)
 
-from facl_commands.ask import completion, manual, terminal  # noqa: E402
-from facl_commands.ask.prompt import ALONE, WORDS_OF_PROMPT, Prompt  # noqa: E402
+from facl_commands.ask import completion  # noqa: E402
+from facl_commands.ask.prompt import ALONE, WORDS_OF_PROMPT, Prompt, has_history  # noqa: E402
 from facl_commands.base.messages import Failure  # noqa: E402
 from facl_commands.base.names import shown  # noqa: E402
 from facl_commands.base.programs import LINUX  # noqa: E402
@@ -41,7 +41,7 @@ UNKNOWN = (b"the directories above are not recorded, so they are taken as open; 
 
 def completer(folder: bytes = SHARE) -> completion.Completer:
     texts = overview.read_texts(folder)
-    return completion.Completer(manual.read_page(), texts.passwd, texts.group, lambda: texts.dump, WORDS_OF_PROMPT)
+    return completion.Completer(completion.read_page(), texts.passwd, texts.group, lambda: texts.dump, WORDS_OF_PROMPT)
 
 
 class AsTheProgram(Case):
@@ -264,7 +264,7 @@ other::r--
 
 class Manual(unittest.TestCase):
     def setUp(self) -> None:
-        self.page = manual.read_page()
+        self.page = completion.read_page()
 
     def test_each_tool_is_completed_and_has_help(self) -> None:
         self.assertEqual(set(self.page.tools), set(completion.TOOL_WORDS))
@@ -571,11 +571,11 @@ class History(Case):
 
     def test_a_private_file(self) -> None:
         os.mkdir(self.path("home"))
-        self.assertTrue(terminal.has_history(self.path("home")))
+        self.assertTrue(has_history(self.path("home")))
         name = self.path("home/.facl_history")
         self.assertEqual(os.stat(name).st_mode & 0o777, 0o600)
         os.chmod(name, 0o644)
-        self.assertTrue(terminal.has_history(self.path("home")))
+        self.assertTrue(has_history(self.path("home")))
         self.assertEqual(os.stat(name).st_mode & 0o777, 0o600)
 
     def test_what_is_not_written(self) -> None:
@@ -583,14 +583,14 @@ class History(Case):
         self.write("other", b"")
         os.chmod(self.path("other"), 0o644)
         os.symlink(self.path("other"), self.path("home/.facl_history"))
-        self.assertFalse(terminal.has_history(self.path("home")))
+        self.assertFalse(has_history(self.path("home")))
         os.unlink(self.path("home/.facl_history"))
         os.mkfifo(self.path("home/.facl_history"))
-        self.assertFalse(terminal.has_history(self.path("home")))
+        self.assertFalse(has_history(self.path("home")))
         os.unlink(self.path("home/.facl_history"))
         os.chmod(self.path("home"), 0o777)
-        self.assertFalse(terminal.has_history(self.path("home")))
-        self.assertFalse(terminal.has_history(self.path("absent")))
+        self.assertFalse(has_history(self.path("home")))
+        self.assertFalse(has_history(self.path("absent")))
         self.assertEqual((os.listdir(self.path("home")), os.stat(self.path("other")).st_mode & 0o777), ([], 0o644))
 
 

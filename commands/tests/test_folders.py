@@ -14,7 +14,7 @@ from common import COMMANDS, Case
 
 sys.path.insert(0, COMMANDS)
 
-from facl_commands.ask.parts.join import check_same  # noqa: E402
+from facl_commands.ask.parts.several import check_same  # noqa: E402
 from facl_commands.ask.parts.runs import Part  # noqa: E402
 from facl_commands.ask.parts.worker import head_of  # noqa: E402
 from facl_commands.base import folders, trusted  # noqa: E402

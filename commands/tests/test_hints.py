@@ -16,13 +16,13 @@ from common import COMMANDS, HERE
 
 sys.path.insert(0, COMMANDS)
 
-from facl_commands.ask.manual import read_page  # noqa: E402
+from facl_commands.ask.completion import read_page  # noqa: E402
 from facl_commands.base.programs import LINUX  # noqa: E402
 from facl_commands.model.people import People  # noqa: E402
 from facl_commands.model.snapshot import read_snapshot  # noqa: E402
 from facl_commands.plan import chown  # noqa: E402
 from facl_commands.program import tools  # noqa: E402
-from facl_commands.program.hints import hint, pasting  # noqa: E402
+from facl_commands.program.hints import hint  # noqa: E402
 from facl_commands.program.hints.rows import ROWS, HintRow  # noqa: E402
 from facl_commands.program.scripts import Unit, read_script, words_of  # noqa: E402
 from facl_commands.program.session import Session  # noqa: E402
@@ -363,7 +363,7 @@ class Hostile(unittest.TestCase):
     def test_words_in_double_quotes_are_in_single_ones(self) -> None:
         for line, wanted in ((b'rm "a b" "$(it)" x"y', b"rm 'a b' '$(it)' 'x\"y'"), (b"rm 'a \"b\" c'", b"rm 'a \"b\" c'"),
                              (b"rm 'a\"b c\" d' \"\"", b"rm 'a\"b c\" d' ''"), (b'rm "a\'b"', None)):
-            self.assertEqual(pasting.harmless(line), wanted)
+            self.assertEqual(hint.harmless(line), wanted)
 
     def test_commands_are_cut_outside_of_quotes_alone(self) -> None:
         for line, lines in ((b"getfacl 'a;b' ; changes", [b"getfacl 'a;b'", b"changes"]), (b"getfacl a; touch b", [b"getfacl a"]),

@@ -13,7 +13,7 @@ from common import COMMANDS, HERE, Case
 
 sys.path.insert(0, COMMANDS)
 
-from facl_commands.ask.manual import HELP, read_page  # noqa: E402
+from facl_commands.ask.completion import HELP, read_page  # noqa: E402
 from facl_commands.base.programs import LINUX  # noqa: E402
 from facl_commands.program.session import Session  # noqa: E402
 

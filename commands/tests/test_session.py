@@ -18,7 +18,7 @@ from common import COMMANDS, Case, restore_signals
 sys.path.insert(0, COMMANDS)
 
 from facl_commands.base.messages import Failure  # noqa: E402
-from facl_commands.program import exchange  # noqa: E402
+from facl_commands.program import session as sessions  # noqa: E402
 from facl_commands.program.session import Session  # noqa: E402
 
 HEAD = b"""\
@@ -87,7 +87,7 @@ class ManyLines(StandIns):
 
     def test_a_program_that_answers_late(self) -> None:
         slow = b"lines = [sys.stdin.buffer.readline() for _ in range(2)]\ntime.sleep(1)\nanswer(lines)\n"
-        with within(60), mock.patch.object(exchange, "SILENCE", 0.1), self.session(slow) as session:
+        with within(60), mock.patch.object(sessions, "SILENCE", 0.1), self.session(slow) as session:
             self.assertEqual(session.ask(b"frob x\n").messages, [b"frob: x: usage"])
 
     def test_a_long_message(self) -> None:
@@ -99,11 +99,11 @@ class FalsePrograms(StandIns):
     """Each fault ends the session with a message, and the program with it."""
 
     def expect_failure(self, body: bytes, text: bytes, lines: bytes = b"frob x\n" * 100_000, silence: float = 0.2) -> None:
-        with within(60), self.assertRaises(Failure) as raised, mock.patch.object(exchange, "SILENCE", silence):
+        with within(60), self.assertRaises(Failure) as raised, mock.patch.object(sessions, "SILENCE", silence):
             with self.session(body) as session:
                 session.ask(lines)
         self.assertEqual(raised.exception.text, text)
-        self.assertIsNotNone(session.pipes.process.returncode)
+        self.assertIsNotNone(session.process.returncode)
 
     def test_ends(self) -> None:
         self.expect_failure(b"", b"the program ended early: status 0")
@@ -126,7 +126,7 @@ class FalsePrograms(StandIns):
         self.expect_gone(int(self.read("process")))
 
     def test_messages_without_end(self) -> None:
-        with mock.patch.object(exchange, "MOST", 1_000_000):
+        with mock.patch.object(sessions, "MOST", 1_000_000):
             for piece in (b"x" * 1000, b"line 1: frob: x: usage\n" * 50):
                 self.expect_failure(b"while True: os.write(2, %r)\n" % piece, b"the program wrote more than 67,108,864 bytes of messages at once")
 

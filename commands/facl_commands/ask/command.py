@@ -11,6 +11,7 @@ import termios
 from types import FrameType
 from typing import Callable, Dict, Iterable, Iterator, List, NoReturn, Optional
 
+from ..base.attempts import failing
 from ..base.environment import environment_of_called
 from ..base.folders import folder_of
 from ..base.messages import SIGNALS, Command, Failure, parser_of, reason
@@ -71,11 +72,10 @@ def parse(words: List[str]) -> argparse.Namespace:
                         help="answer standard input over the snapshots of several servers, NAME:DIR")
     parser.add_argument("--timeout", metavar="SECONDS", type=seconds_of,
                         help=f"with --each and --hosts: how long another machine may take ({SECONDS})")
-    parser.add_argument("--records", action="store_true", help=argparse.SUPPRESS)  # With --part: what it records, too.
-    # With --part: a file that other snapshots have too.
+    # What --each and --hosts run for each; with it: what is recorded, too; a file that others have, too; a user in answers.
+    parser.add_argument("--part", action="store_true", help=argparse.SUPPRESS)
+    parser.add_argument("--records", action="store_true", help=argparse.SUPPRESS)
     parser.add_argument("--shared", action="append", default=[], help=argparse.SUPPRESS)
-    parser.add_argument("--part", action="store_true", help=argparse.SUPPRESS)  # What --each runs for each of them.
-    # With --part: that user is in answers, too.
     parser.add_argument("--everybody", metavar="NAME:ID", help=argparse.SUPPRESS)
     sources.add_source(parser, words)
     parser.add_argument("scripts", metavar="SCRIPT", nargs="*", default=[])
@@ -92,11 +92,9 @@ def seconds_of(word: str) -> int:
 
 def take_script(script: str) -> None:
     """Makes a script by name the standard input."""
-    try:
+    with failing(os.fsencode(script), True):
         descriptor = open_script(script)
         os.read(descriptor, 0)  # A folder cannot be read.
-    except OSError as error:
-        raise Failure(os.fsencode(script) + b": " + reason(error)) from error
     if os.fstat(descriptor).st_size > MOST_WRITTEN:  # The program ends at as many of a device.
         raise too_large(os.fsencode(script), MOST_WRITTEN)
     os.dup2(descriptor, 0)
@@ -116,8 +114,7 @@ def run_explained(command: Command, program: str, source: Source, name: Optional
     """Runs the program over the standard input, and returns its status. Where that is a script by name, what was probably
     meant comes below each message. A terminal gets messages without what it obeys."""
     units: Optional[Dict[int, Unit]] = None if name is not None else {}
-    is_terminal = os.isatty(2)
-    texts = folder_of(source.folder)
+    texts, is_terminal = folder_of(source.folder), os.isatty(2)
     words, files = texts.command(program)
     with subprocess.Popen(words, stderr=subprocess.PIPE, pass_fds=files, env=environment_of_called()) as run:
         assert run.stderr is not None
@@ -152,8 +149,7 @@ def answer_units(
     command: Command, session: Session, units: Iterable[Unit], answers: Optional[ElseAnswers] = None, is_explained: bool = True,
     place_of: Callable[[Unit], bytes] = lambda unit: unit.place(),
 ) -> int:
-    """Answers lines one after another; those of a session with everybody else each below its question. At a terminal `why` has
-    marks."""
+    """Answers lines one by one; those of a session with everybody else below their questions. At a terminal `why` has marks."""
     status, is_terminal = ANSWERED, os.isatty(1)
     marks = marks_of(session.folder) if is_terminal else NO_MARKS
     for unit in units:
@@ -169,8 +165,11 @@ def answer_units(
     return status
 
 
-def answer_with_headings(command: Command, program: str, folder: bytes, units: List[Unit]) -> int:
-    """Answers lines as a person reads them, each below its question, and with everybody else."""
+def answer_scripts(command: Command, program: str, folder: bytes, units: List[Unit], has_headings: bool) -> int:
+    """Answers lines; with headings as a person reads them, each below its question, and with everybody else."""
+    if not has_headings:
+        with Session(program, folder) as session:
+            return answer_units(command, session, units)
     texts = people_in(folder)
     answers = answers_over(folder, texts.passwd, units)
     with session_with(program, folder, *answers.everybody.with_both(texts)) as session:
@@ -220,12 +219,11 @@ def dim(line: bytes) -> bytes:
 def run_prompt(command: Command, program: str, source: Source, given: argparse.Namespace) -> int:
     """Answers a person's lines. Only a prompt needs these parts of the package."""
     from ..model.superuser import Superusers, ids_in
-    from . import manual, terminal
-    from .completion import Completer
-    from .prompt import WORDS_OF_PROMPT, Prompt, refuse_early_end
+    from .completion import Completer, read_page
+    from .prompt import WORDS_OF_PROMPT, Prompt, find_toolkit, reader
 
     found, about = overview.read_texts(source.folder), meta.meta_of(source.folder)
-    completer = Completer(manual.read_page(), found.passwd, found.group, lambda: found.dump, WORDS_OF_PROMPT)
+    completer = Completer(read_page(), found.passwd, found.group, lambda: found.dump, WORDS_OF_PROMPT)
 
     def out(text: bytes) -> None:
         command.write(text)
@@ -238,14 +236,14 @@ def run_prompt(command: Command, program: str, source: Source, given: argparse.N
     prompt = Prompt(lambda: Session(program, source.folder, texts), completer, out, dim, superusers,
                     marks_of(source.folder), answers, beside(about), not given.file_alone)
     with kept_terminal(), contextlib.closing(prompt):
-        refuse_early_end(prompt.session)
+        prompt.session.ask(b"")  # Fails where the program does not load the snapshot.
         out(shown(overview.summary(found, meta.named(source.shown, about))) + b"; `help` lists the tools, control-D ends\n")
         overview.say_notices(command, source, given.acl5)
         for warning in overview.warnings(found):
             command.say(warning)
-        if terminal.find_toolkit() is None:
+        if find_toolkit() is None:
             command.say(b"without python3-prompt-toolkit, which is not installed: no completion")
-        prompt.run(terminal.reader(completer))
+        prompt.run(reader(completer))
     return ANSWERED
 
 
@@ -262,10 +260,7 @@ def answer_one(command: Command, given: argparse.Namespace, source: Source) -> i
     if len(given.scripts) > 1 or given.headings:
         overview.say_notices(command, source, given.acl5)
         units = [unit for name in given.scripts or ["-"] for unit in read_text(name).units()]
-        if given.headings:
-            return answer_with_headings(command, program, source.folder, units)
-        with Session(program, source.folder) as session:
-            return answer_units(command, session, units)
+        return answer_scripts(command, program, source.folder, units, given.headings)
     name = None if given.scripts in ([], ["-"]) else os.fsencode(given.scripts[0])
     if name is not None:
         take_script(given.scripts[0])
@@ -284,11 +279,11 @@ def body(command: Command, words: List[str]) -> int:
     if given.each and given.hosts:
         raise Failure(b"--each is for parts of one tree, and --hosts for servers: give one of them")
     if given.each or given.hosts:
-        from .parts import hosts, join
+        from .parts import several
 
         if given.dump is not None:
             raise Failure(b"--dump is one dump: make a folder of passwd, group and dump for each of several")
-        answer = join.body if given.each else hosts.body
+        answer = several.answer_parts if given.each else several.answer_hosts
         return answer(command, [given.snapshot, *given.scripts], given)
     with sources.opened(given) as source:
         return answer_one(command, given, source)

@@ -1,43 +1,60 @@
-"""What a word of a line can be completed to: tools, options, users, groups, entries and paths."""
+"""What a word of a line can be completed to: tools, options, users, groups, entries and paths; and the manual page."""
 from __future__ import annotations
 
 import bisect
+import itertools
+import json
+import os
 import re
-from typing import Callable, Iterator, List, NamedTuple, Optional, Tuple
+from typing import Callable, Dict, Iterator, List, NamedTuple, Optional, Tuple
 
 from ..base.names import file_name, read_path, shown, sorting_key
 from ..model.people import rows_of
 from ..program.protocol import FILE_LINE
 from ..program.scripts import words_of
 from ..program.tools import ENTRIES, FILE, GROUP, OTHER, TOOLS, USER, VALUES, operand_kinds, options_of_tool, split
-from .manual import Page
 
 CANDIDATES = 200  # The most that one word is offered.
+HELP = os.path.join(os.path.dirname(os.path.realpath(__file__)), "help.json")
 TOOL_WORDS = [tool.decode() for tool in TOOLS]
 NAMED_ENTRY = re.compile(r"((?:d(?:efault)?:)?(u(?:ser)?|g(?:roup)?):)([^:]*)\Z")
 PLAIN_WORD = re.compile(r"[A-Za-z0-9_./:=@%+,~^-]*\Z")
 
 
-class Started(NamedTuple):
-    """The word that is being written, and the words before it."""
+class ToolPage(NamedTuple):
+    """A tool as the manual page has it."""
 
-    start: int  # Where it starts in the line.
-    word: str  # Without quotes.
-    before: List[bytes]
+    synopses: List[str]
+    text: str
 
 
-def started_word(line: str) -> Optional[Started]:
-    """The last word of a line, which may have an open quote; None in a comment."""
-    if line.lstrip(" \t").startswith("#"):
-        return None
+class Page(NamedTuple):
+    """The manual page of the program as plain text: help.json, which commands/tests/help_text.py makes of docs/facl.1."""
+
+    sections: Dict[str, str]  # By their names in small letters.
+    tools: Dict[str, ToolPage]
+
+
+def read_page() -> Page:
+    with open(HELP, encoding="utf-8") as file:
+        found = json.load(file)
+    return Page({name: text_of(lines) for name, lines in found["sections"].items()},
+                {name: ToolPage(its["synopses"], text_of(its["text"])) for name, its in found["tools"].items()})
+
+
+def text_of(lines: List[str]) -> str:
+    return "".join(line + "\n" for line in lines)
+
+
+def start_of_word(line: str) -> int:
+    """Where the last word of a line starts, which may have an open quote."""
     start, is_open = 0, False
     for place, letter in enumerate(line):
         if letter == "'":
             is_open = not is_open
         elif letter in " \t" and not is_open:
             start = place + 1
-    before = words_of(line[:start].encode("utf-8", "surrogateescape")) or []
-    return Started(start, line[start:].replace("'", ""), before)
+    return start
 
 
 class CompletedPaths:
@@ -63,14 +80,10 @@ class CompletedPaths:
         prefix = sorting_key(directory) + b"\0" if directory else b""
         place = bisect.bisect_left(self.keys, prefix + start)
         while place < len(self.keys) and self.keys[place].startswith(prefix + start):
-            name, has_more, _ = self.keys[place][len(prefix) :].partition(b"\0")
-            following = bisect.bisect_left(self.keys, prefix + name + b"\0")
-            is_directory = bool(has_more) or any(
-                key.startswith(prefix + name + b"\0") for key in self.keys[following : following + 1]
-            )
+            name = self.keys[place][len(prefix) :].partition(b"\0")[0]
+            below, place = (bisect.bisect_left(self.keys, prefix + name + end) for end in (b"\0", b"\1"))
             if name:
-                yield name, is_directory
-            place = bisect.bisect_left(self.keys, prefix + name + b"\1")
+                yield name, below < place
 
 
 def written(name: bytes) -> str:
@@ -89,13 +102,9 @@ def quoted(word: str, is_whole: bool) -> str:
 class Completer:
     """Completes words over a snapshot."""
 
-    def __init__(self, page: Page, passwd: bytes, group: bytes, dump: Callable[[], bytes],
-                 more: List[str]) -> None:
-        self.page = page
-        self.users = [written(row[0]) for row in rows_of(passwd)]
-        self.groups = [written(row[0]) for row in rows_of(group)]
-        self.more = more  # Words of the prompt itself.
-        self.dump = dump
+    def __init__(self, page: Page, passwd: bytes, group: bytes, dump: Callable[[], bytes], more: List[str]) -> None:
+        self.page, self.dump, self.more = page, dump, more  # The last are words of the prompt itself.
+        self.users, self.groups = ([written(row[0]) for row in rows_of(rows)] for rows in (passwd, group))
         self.known: Optional[CompletedPaths] = None
 
     def paths(self) -> CompletedPaths:
@@ -106,21 +115,21 @@ class Completer:
 
     def complete(self, line: str) -> Tuple[int, List[str]]:
         """Where the last word of a line starts, and what it can be."""
-        started = started_word(line)
-        if started is None:
+        if line.lstrip(" \t").startswith("#"):  # A comment.
             return len(line), []
-        found = self.words(started)
-        return started.start, [word for _, word in zip(range(CANDIDATES), found)]
+        start = start_of_word(line)
+        before = words_of(line[:start].encode("utf-8", "surrogateescape")) or []
+        return start, list(itertools.islice(self.words(before, line[start:].replace("'", "")), CANDIDATES))
 
-    def words(self, started: Started) -> Iterator[str]:
-        if not started.before:
-            return (word + " " for word in [*TOOL_WORDS, *self.more] if word.startswith(started.word))
-        tool = started.before[0]
-        if tool == b"help":
-            return (topic for topic in [*self.page.tools, *self.page.sections] if topic.startswith(started.word))
-        if started.word.startswith("-") and b"--" not in started.before:
-            return self.options(tool, started.word)
-        return self.values(kind_of(started.before), started.word)
+    def words(self, before: List[bytes], word: str) -> Iterator[str]:
+        """What a word can be after others; it has no quotes."""
+        if not before:
+            return (it + " " for it in [*TOOL_WORDS, *self.more] if it.startswith(word))
+        if before[0] == b"help":
+            return (topic for topic in [*self.page.tools, *self.page.sections] if topic.startswith(word))
+        if word.startswith("-") and b"--" not in before:
+            return self.options(before[0], word)
+        return self.values(kind_of(before), word)
 
     def options(self, tool: bytes, word: str) -> Iterator[str]:
         name, is_value, value = word.partition("=")
@@ -158,7 +167,7 @@ class Completer:
         keys = self.paths().keys
         end, is_whole = b"\0" + sorting_key(name), keys[:1] == [b""]
         found = (file_name(key.replace(b"\0", b"/"), is_whole) for key in keys if key.endswith(end))
-        return [name for _, name in zip(range(3), found)]
+        return list(itertools.islice(found, 3))
 
 
 def kind_of(words: List[bytes]) -> str:

@@ -1,28 +1,32 @@
-"""The prompt of facl-ask, apart from how a line is read: what is done with the lines that a person writes."""
+"""The prompt of facl-ask: what is done with the lines that a person writes, and how they are read."""
 from __future__ import annotations
 
+import contextlib
 import gc
-from typing import Callable, Iterator, List, Optional, Sequence, Set
+import importlib
+import os
+import stat
+from typing import Any, Callable, Iterator, List, Optional, Sequence, Set
 
+from ..base.attempts import held
 from ..base.messages import Failure
 from ..base.names import read_path, shown
+from ..base.trusted import PRIVATE, open_folder
 from ..model.everybody import ElseAnswers
 from ..model.marks import NO_MARKS, Marks
 from ..model.superuser import Superusers
 from ..program.hints.hint import explained
-from ..program.protocol import (
-    IN_LINE, PROGRAM, UNKNOWN_TOOL, is_refused, lacking_file, lacks_file, message_of,
-)
-from ..program.scripts import LINE_LIMIT, WORD, Unit, is_empty, read_units, words_of
+from ..program.protocol import IN_LINE, PROGRAM, UNKNOWN_TOOL, is_refused, lacking_file, lacks_file, message_of
+from ..program.scripts import LINE_LIMIT, WORD, Unit, is_empty, read_units, words_within
 from ..program.session import Answer, Session
 from ..program.tools import EMPTY_ANSWERS, MAKERS, OPTIONS, QUESTIONS, REACH, REMOVERS, REQUESTS
 from .completion import Completer
 from .stops import marked
 
 Read = Callable[[str], str]  # Reads a line, after a prompt; raises EOFError and KeyboardInterrupt.
-HELP_WORDS, END_WORDS = (b"help", b"?"), (b"quit", b"exit")
-ALONG_PATHS = {b"along": True, b"alone": False}  # Words after which questions count so.
+HELP_WORDS, END_WORDS, ALONG_PATHS = [[b"help"], [b"?"]], [[b"quit"], [b"exit"]], [[b"along"], [b"alone"]]
 WORDS_OF_PROMPT = ["along", "alone", "help", "quit"]
+HISTORY = ".facl_history"
 MARK = " along paths"  # In the prompt, where questions count search permission.
 ALONE = b"(each file is judged alone; `along` counts search permission on its parent directories too)\n"
 KEYS = """\
@@ -78,24 +82,20 @@ class Prompt:
 
     def answer_line(self, line: bytes, read: Read) -> bool:
         """Whether the session goes on."""
-        words = (words_of(line) if len(line) <= LINE_LIMIT else None) or []
-        if words[:1] and words[0] in END_WORDS and len(words) == 1:
+        words, number = words_within(line), self.number
+        if words in END_WORDS:
             return False
-        if words[:1] and words[0] in HELP_WORDS:
+        if words[:1] in HELP_WORDS:
             self.help(words[1:])
-            return True
-        if len(words) == 1 and words[0] in ALONG_PATHS:
-            self.is_along = ALONG_PATHS[words[0]]
-            return True
-        if len(line) <= LINE_LIMIT and is_empty(line):
-            return True
-        number = self.number
-        try:
-            unit = next(read_units(b"", self.with_text(line, read)))
-        except KeyboardInterrupt:
-            self.out(b"(the text is given up, and line %d with it)\n" % number)
-            return True
-        self.answer(unit._replace(number=number))
+        elif words in ALONG_PATHS:
+            self.is_along = words == ALONG_PATHS[0]
+        elif len(line) > LINE_LIMIT or not is_empty(line):
+            try:
+                unit = next(read_units(b"", self.with_text(line, read)))
+            except KeyboardInterrupt:
+                self.out(b"(the text is given up, and line %d with it)\n" % number)
+            else:
+                self.answer(unit._replace(number=number))
         return True
 
     def with_text(self, line: bytes, read: Read) -> Iterator[bytes]:
@@ -110,7 +110,11 @@ class Prompt:
         try:
             answer = self.session.ask((asked if self.answers is None else self.answers.asked(asked)).text())
         except KeyboardInterrupt:
-            self.start_again(IN_LINE % unit.number + b"given up, and changed nothing\n")
+            self.close()  # It is at a long answer; another one is brought to where it was.
+            self.session = self.start()
+            for lines in self.accepted:
+                self.session.ask(lines)
+            self.out(IN_LINE % unit.number + b"given up, and changed nothing\n")
             return
         try:
             self.show(unit, asked, answer)
@@ -120,14 +124,6 @@ class Prompt:
             self.accepted.append(unit.text())
             self.superusers.follow(unit)
             self.follow(unit)
-
-    def start_again(self, message: bytes) -> None:
-        """Ends the program, which is at a long answer, and brings another one to where it was."""
-        self.close()
-        self.session = self.start()
-        for lines in self.accepted:
-            self.session.ask(lines)
-        self.out(message)
 
     def show(self, unit: Unit, asked: Unit, answer: Answer) -> None:
         """An answer below its line, which was asked so."""
@@ -195,8 +191,58 @@ def along_path(unit: Unit) -> Unit:
     return unit._replace(words=[unit.words[0], REACH, *unit.words[1:]], lines=[longer, *unit.lines[1:]])
 
 
-def refuse_early_end(session: Session) -> None:
-    """Fails where the program does not load the snapshot."""
-    answer = session.ask(b"")
-    if answer.messages:
-        raise Failure(answer.messages[0])
+# --- lines of a person at a terminal: by prompt_toolkit where it is installed, else by Python alone
+
+
+def find_toolkit() -> Any:
+    """prompt_toolkit, which Debian has as python3-prompt-toolkit, with what it imports itself; else None."""
+    try:
+        return importlib.import_module("prompt_toolkit")
+    except ImportError:
+        return None
+
+
+def has_history(home: str) -> bool:
+    """Whether lines can be kept in a folder: nobody else can write there, and the file, which is made where there is
+    none, is the user's own; nobody else may read it then."""
+    flags = os.O_RDWR | os.O_CREAT | os.O_NOFOLLOW | os.O_NONBLOCK | os.O_CLOEXEC
+    try:
+        with held(open_folder(os.fsencode(home))) as folder:
+            file = os.open(HISTORY, flags, PRIVATE, dir_fd=folder)
+    except (Failure, OSError):
+        return False
+    with held(file):
+        look = os.fstat(file)
+        is_own = stat.S_ISREG(look.st_mode) and look.st_uid == os.geteuid()
+        if is_own:
+            os.fchmod(file, PRIVATE)
+        return is_own
+
+
+def history(toolkit: Any) -> Any:
+    """The lines of earlier sessions, in a file of the user's own; in memory where they cannot be kept there."""
+    home, kinds = os.path.expanduser("~"), toolkit.history
+    return kinds.FileHistory(os.path.join(home, HISTORY)) if has_history(home) else kinds.InMemoryHistory()
+
+
+def completer_of(toolkit: Any, known: Completer) -> Any:
+    """A completer of prompt_toolkit that calls ours."""
+
+    def get_completions(_self: object, document: Any, _event: object) -> Iterator[Any]:
+        line = document.text_before_cursor
+        start, words = known.complete(line)
+        for word in words:
+            yield toolkit.completion.Completion(word, start_position=start - len(line))
+
+    return type("FaclCompleter", (toolkit.completion.Completer,), {"get_completions": get_completions})()
+
+
+def reader(known: Completer) -> Read:
+    """Reads lines by prompt_toolkit, else by Python's own readline, without completion."""
+    toolkit = find_toolkit()
+    if toolkit is None:
+        with contextlib.suppress(ImportError):  # Lines are read without a history then.
+            importlib.import_module("readline")
+        return input
+    session = toolkit.PromptSession(history=history(toolkit), completer=completer_of(toolkit, known), complete_while_typing=False)
+    return lambda prompt: str(session.prompt(prompt))

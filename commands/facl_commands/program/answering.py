@@ -1,5 +1,4 @@
-"""Answers of the program to the lines of a script: which messages refuse a line, and how answers and messages are
-printed."""
+"""Answers of the program to the lines of a script, and how these and messages are printed."""
 from __future__ import annotations
 
 import os
@@ -21,10 +20,8 @@ def answer_unit(session: Session, unit: Unit) -> Answer:
     return session.ask(unit.text())
 
 
-def write_messages(command: Command, place: bytes, unit: Unit, messages: List[bytes],
-                   begin: Optional[bytes] = b"") -> None:
-    """The messages of a line, after what was printed so far, each with its place; below it, after a beginning, what was
-    probably meant."""
+def write_messages(command: Command, place: bytes, unit: Unit, messages: List[bytes], begin: Optional[bytes] = b"") -> None:
+    """The messages of a line after what was printed so far, each with its place; below, after a beginning, what was meant."""
     command.flush()
     is_terminal = os.isatty(2)
     for message in messages:
@@ -35,12 +32,6 @@ def write_messages(command: Command, place: bytes, unit: Unit, messages: List[by
 
             command.explain(explained(unit, message), begin)
     command.put(command.messages)
-
-
-def lines_for_terminal(lines: Iterable[bytes]) -> Iterator[bytes]:
-    """The lines of an answer; at a terminal without what this obeys."""
-    is_terminal = os.isatty(1)
-    return (shown(line) if is_terminal else line for line in lines)
 
 
 # --- answers with the question above each, as facl-plan prints them

@@ -1,8 +1,8 @@
 """What the commands and the program say to each other: the texts that the commands look for in its messages and
-listings, and the lines that they ask it, each once.
-"""
+listings, and the lines that they ask it, each once."""
 from __future__ import annotations
 
+import functools
 from typing import List
 
 # --- statuses of the program; facl-ask ends with them too
@@ -35,25 +35,14 @@ SETUP = b"facl: setup: "  # By the program, which ends then (run_fault.rt): a te
 ANY_TOOL = rb"[a-z]+"
 
 
-def by(tool: bytes, *texts: bytes) -> bytes:
-    """Messages of a tool that have one of these texts."""
-    return tool + b": (?:" + b"|".join(texts) + b")"
+def by(tool: bytes, *texts: bytes, before: bytes = b"") -> bytes:
+    """Messages of a tool that have one of these texts, after a pattern."""
+    return tool + b": " + before + b"(?:" + b"|".join(texts) + b")"
 
 
-def of_name(tool: bytes, *texts: bytes) -> bytes:
-    """Those that have a name before their text."""
-    return by(tool, b".*: (?:" + b"|".join(texts) + b")")
-
-
-def of_entry(tool: bytes, *texts: bytes) -> bytes:
-    """Those of an entry of a line."""
-    return by(tool, rb"(?:default )?entry \d+: (?:" + b"|".join(texts) + b")")
-
-
-def of_list(text: bytes) -> bytes:
-    """Those of a whole list."""
-    return by(ANY_TOOL, rb"(?:.*: )?(?:access|default) list: " + text)
-
+of_name = functools.partial(by, before=rb".*: ")  # Those that have a name before their text.
+of_entry = functools.partial(by, before=rb"(?:default )?entry \d+: ")  # Those of an entry of a line.
+of_list = functools.partial(by, ANY_TOOL, before=rb"(?:.*: )?(?:access|default) list: ")  # Those of a whole list.
 
 # --- single messages
 

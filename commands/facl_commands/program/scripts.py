@@ -1,7 +1,6 @@
 """Scripts, cut into lines with their texts, as the section SCRIPTS of the manual page has it."""
 from __future__ import annotations
 
-import itertools
 import os
 import re
 import stat
@@ -15,10 +14,6 @@ from .tools import LOADERS, TEXT_WORDS, form_of
 LINE_LIMIT = 65536
 DESCRIPTOR = re.compile(r"/dev/(?:stdin|fd/\d+)\Z|/proc/self/fd/\d+\Z")
 WORD = re.compile(rb"(?:[^ \t']|'[^']*')+")
-# A line that is neither blank nor a comment, or too long for a script; the second one with the end of the line before.
-FIRST_LINE = re.compile(rb"[ \t]*[^ \t\n#]|[^\n]{%d}" % (LINE_LIMIT + 1))
-NEXT_LINE = re.compile(rb"\n(?:[ \t]*[^ \t\n#]|[^\n]{%d})" % (LINE_LIMIT + 1))
-END_OF_TEXT = b"\n.\n"
 
 
 class Unit(NamedTuple):
@@ -85,41 +80,14 @@ def words_within(line: bytes) -> List[bytes]:
     return words_of(line) or [] if len(line) <= LINE_LIMIT else []
 
 
-def starts(content: bytes) -> Iterator[Tuple[int, int]]:
-    """The lines of a text that are neither blank nor comments, or too long for a script: their numbers, from 1 on, and
-    where they begin. Comments are passed over by a pattern, since there can be many."""
-    number, place = 1, 0
-    for found in itertools.chain(filter(None, [FIRST_LINE.match(content)]), NEXT_LINE.finditer(content)):
-        start = found.start() + (found.re is NEXT_LINE)
-        number += content.count(b"\n", place, start)
-        place = start
-        yield number, start
-
-
 def lines_with_numbers(content: bytes) -> Iterator[Tuple[int, bytes]]:
     """The lines of a text that are neither blank nor comments, each with its number, from 1 on."""
-    for number, start in starts(content):
-        end = content.find(b"\n", start)
-        line = content[start : end if end >= 0 else len(content)]
-        if not is_empty(line):
-            yield number, line
+    return ((number, line) for number, line in enumerate(content.split(b"\n"), 1) if not is_empty(line))
 
 
 def read_script(name: bytes, content: bytes) -> List[Unit]:
     """The units of a script."""
-    found: List[Unit] = []
-    after = 0  # What is before is taken.
-    content = content if content.endswith(b"\n") or not content else content + b"\n"
-    for number, start in starts(content):
-        if start >= after:
-            after = content.find(b"\n", start) + 1
-            words, is_ended = words_within(content[start : after - 1]), True
-            if takes_text(words):
-                end = content.find(END_OF_TEXT, after - 1)
-                is_ended = end >= 0
-                after = end + len(END_OF_TEXT) if is_ended else len(content)
-            found.append(Unit(name, number, words, content[start : after - 1].split(b"\n"), is_ended))
-    return found
+    return list(read_units(name, content.removesuffix(b"\n").split(b"\n")))
 
 
 class Script(NamedTuple):

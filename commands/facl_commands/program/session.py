@@ -5,6 +5,8 @@ import contextlib
 import itertools
 import os
 import re
+import select
+import signal
 import subprocess
 from typing import IO, Callable, Iterable, Iterator, List, NamedTuple, Optional
 
@@ -12,19 +14,18 @@ from ..base import scratch
 from ..base.folders import TEXTS, Folder, folder_of
 from ..base.messages import Failure
 from ..base.progress import AT
-from .exchange import end_program, exchange, how_it_ended, pipes_of
 from .protocol import IN_LINE, PROBE, PROBE_REFUSED, SETUP, UNKNOWN_TOOL, has_text
 
-OLDER = b": it is older than this command, so install both anew"
 LINE_ROOM = 60_000  # Bytes of words in a line that a command asks; a line may have 65,536, with those before them.
 LINES_ROOM = 1 << 20  # Bytes of lines that are asked at once.
-LONGEST_CAUSE = 1_000  # Bytes of the last message that are quoted.
+PIECE = 1 << 16  # Bytes that are written or read at once.
+MOST = 67_108_864  # Bytes of messages to lines that are written at once.
+SILENCE = 2.0  # Seconds without a byte, after which a program that cannot answer any more is given up.
 NUMBER = re.compile(rb"\Aline [0-9]+: ")  # The beginning of a message.
 
 
 def cut(pieces: Iterable[bytes], end: bytes = b"\n", longest: Optional[int] = None) -> Iterator[List[bytes]]:
-    """The lines of a text that comes in pieces, without their ends: at once those that end in a piece; ValueError where
-    more than `longest` bytes have none."""
+    """The lines of a text in pieces, without ends, at once those that end in a piece; ValueError where one is longer."""
     rest = b""
     for piece in pieces:
         *whole, rest = (rest + piece).split(end)
@@ -72,7 +73,7 @@ class Answer(NamedTuple):
 
 
 class Session:
-    """A run of the program over the texts of a snapshot's folder, which it gets as open files: it reads what the command has read.
+    """A run of the program over the texts of a snapshot's folder, which it gets as open files: those that the command has read.
 
     What it prints goes to a file, so that it never waits for a reader. A line that it has to refuse, with a word that
     nobody can guess, comes after each of ours: when its message is read, all before it is answered.
@@ -86,17 +87,25 @@ class Session:
         self.folder = folder
         self.number = 0
         self.output = scratch.new_file("facl-session.")
-        self.pipes = pipes_of(subprocess.Popen(
+        self.process = subprocess.Popen(
             words, bufsize=0, pass_fds=files, env={"LC_ALL": "C", "PATH": os.environ.get("PATH", os.defpath)},
             stdin=subprocess.PIPE, stdout=self.output, stderr=subprocess.PIPE, start_new_session=True,
-        ))
+        )
+        assert self.process.stdin is not None and self.process.stderr is not None
+        self.lines, self.messages = self.process.stdin, self.process.stderr
+        os.set_blocking(self.lines.fileno(), False)
 
     def __enter__(self) -> Session:
         return self
 
     def __exit__(self, *_error: object) -> None:
-        end_program(self.pipes)
-        self.output.close()
+        """Ends the program with the processes that it has started in its group."""
+        if self.process.returncode is None:
+            with contextlib.suppress(ProcessLookupError, PermissionError):
+                os.killpg(self.process.pid, signal.SIGKILL)
+            self.process.wait()
+        for stream in (self.lines, self.messages, self.output):
+            stream.close()
 
     def ask(self, lines: bytes) -> Answer:
         """Answers whole lines with their texts."""
@@ -104,7 +113,7 @@ class Session:
         start = os.fstat(self.output.fileno()).st_size
         self.number += lines.count(b"\n") + 1
         end = IN_LINE % self.number + PROBE_REFUSED % token + b"\n"
-        messages = exchange(self.pipes, lines + PROBE % token + b"\n", end)
+        messages = self.exchange(lines + PROBE % token + b"\n", end)
         if not messages.endswith(end):
             raise self.early_end(messages)
         AT.at("answering")
@@ -116,26 +125,54 @@ class Session:
         """Answers a line of our own, which cannot be refused."""
         answer = self.ask(line + b"\n")
         if answer.messages:
-            is_old = has_text(answer.messages[0], UNKNOWN_TOOL)
-            raise Failure(b"the program refused `%s`: %s" % (line.split(b"\n")[0], answer.messages[0]) + OLDER * is_old)
+            older = b": it is older than this command, so install both anew" * has_text(answer.messages[0], UNKNOWN_TOOL)
+            raise Failure(b"the program refused `%s`: %s" % (line.split(b"\n")[0], answer.messages[0]) + older)
         return answer.output
+
+    def exchange(self, text: bytes, end: bytes) -> bytes:
+        """Writes `text`, and returns the messages up to `end`, or all where the program ends before; both at once, as it need not
+        read a line before its messages are read. It may take any time to answer, but cannot any more once it has ended, has
+        closed its standard error, or has closed its standard input before it took all of `text`."""
+        left, found, is_closed = memoryview(text), bytearray(), False
+        while True:
+            readable, writable, _ = select.select([self.messages], [self.lines] if left else [], [], SILENCE)
+            if writable:
+                try:
+                    left = left[os.write(self.lines.fileno(), left[:PIECE]) :]
+                except BlockingIOError:
+                    pass
+                except BrokenPipeError:
+                    left, is_closed = left[:0], True
+            if readable:
+                piece = os.read(self.messages.fileno(), PIECE)
+                found += piece
+                place = found.find(end, max(0, len(found) - len(piece) - len(end)))
+                if not piece or place >= 0:
+                    return bytes(found[: place + len(end)] if place >= 0 else found)
+                if len(found) > MOST:
+                    raise Failure(b"the program wrote more than 67,108,864 bytes of messages at once")
+            if not (readable or writable) and (is_closed or self.process.poll() is not None):
+                return bytes(found)
 
     def early_end(self, messages: bytes) -> Failure:
         """Why the program ended before it was asked to."""
-        last = (messages.rstrip(b"\n").rpartition(b"\n")[2] or how_it_ended(self.pipes))[:LONGEST_CAUSE]
+        last = messages.rstrip(b"\n").rpartition(b"\n")[2][:1_000]
+        if not last:
+            try:
+                last = b"status %d" % self.process.wait(SILENCE)
+            except subprocess.TimeoutExpired:
+                last = b"it closed its standard input or error, and went on"
         if last.startswith(SETUP):
             return Failure(b"%s: the program does not load it: %s" % (self.folder, last))
         return Failure(b"the program ended early: %s" % last)
 
 
-@contextlib.contextmanager
-def session_over(program: str, passwd: bytes, group: bytes, dump: bytes) -> Iterator[Session]:
+def session_over(program: str, passwd: bytes, group: bytes, dump: bytes) -> Session:
     """A session over texts."""
     texts = Folder(b"texts")
     for name, text in zip(TEXTS, (passwd, group, dump)):
         texts.put(name, text)
-    with Session(program, texts.name, texts) as session:
-        yield session
+    return Session(program, texts.name, texts)
 
 
 def parts_of(items: Iterable[bytes], room: int = LINE_ROOM, word_of: Callable[[bytes], bytes] = bytes) -> Iterator[List[bytes]]:

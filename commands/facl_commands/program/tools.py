@@ -73,24 +73,19 @@ ROWS = (
         b"getfacl", QUESTION, "FILE..",
         (option("-a --access"), option("-c --omit-header"), option("-e --all-effective"), option("-E --no-effective"),
          option("-s --skip-base"), RECURSIVE, option("-n --numeric")),
-        FILE_RECORDS, b"(nothing)\n",
-        harmless="-p -t -L -P --absolute-names --tabular --logical --physical",
+        FILE_RECORDS, b"(nothing)\n", harmless="-p -t -L -P --absolute-names --tabular --logical --physical",
     ),
     Tool(
         b"setfacl", EDIT, "FILE..",
-        (option("-b --remove-all"), option("-k --remove-default"),
-         option("-x --remove", ENTRIES), option("-X --remove-file", TEXT),
-         option("-m --modify", ENTRIES), option("-M --modify-file", TEXT),
-         option("-n --no-mask"), option("--mask"), option("-d --default"), RECURSIVE,
-         option("--set", ENTRIES), option("--set-file", TEXT), option("--restore", TEXT, RECORDS),
-         option("--test", "", LOOK)),
-        "PATH: LISTS",
-        harmless="-L -P --logical --physical",
+        (option("-b --remove-all"), option("-k --remove-default"), option("-x --remove", ENTRIES),
+         option("-X --remove-file", TEXT), option("-m --modify", ENTRIES), option("-M --modify-file", TEXT),
+         option("-n --no-mask"), option("--mask"), option("-d --default"), RECURSIVE, option("--set", ENTRIES),
+         option("--set-file", TEXT), option("--restore", TEXT, RECORDS), option("--test", "", LOOK)),
+        "PATH: LISTS", harmless="-L -P --logical --physical",
     ),
     Tool(
         b"chacl", EDIT, "LIST FILE..",
-        (option("-b"), option("-B"), option("-d"), option("-D"), option("-l", "", LOOK), option("-r", "", DEEP),
-         option("-R")),
+        (option("-b"), option("-B"), option("-d"), option("-D"), option("-l", "", LOOK), option("-r", "", DEEP), option("-R")),
         "PATH [LISTS]", other_operands=(("-R -D -B -l", "FILE.."), ("-b", "LIST LIST FILE..")),
     ),
     Tool(b"chmod", EDIT, "MODE FILE..", (option("-R", "", DEEP),), others="--reference", harmless=SAYING_MORE),
@@ -105,10 +100,8 @@ ROWS = (
     Tool(b"userdel", PEOPLE, "USER", harmless="-r -f --remove --force"),
     Tool(b"load", LOAD, "TABLE", takes_text=True),
     # In scripts of facl-plan alone.
-    Tool(b"chown", OF_PLANS, "USER FILE..", (RECURSIVE,), others="--from --reference",
-         harmless=OF_OWNERS),
-    Tool(b"chgrp", OF_PLANS, "GROUP FILE..", (RECURSIVE,), others="--reference",
-         harmless=OF_OWNERS),
+    Tool(b"chown", OF_PLANS, "USER FILE..", (RECURSIVE,), others="--from --reference", harmless=OF_OWNERS),
+    Tool(b"chgrp", OF_PLANS, "GROUP FILE..", (RECURSIVE,), others="--reference", harmless=OF_OWNERS),
 )
 ALL = {tool.name: tool for tool in ROWS}
 
@@ -203,11 +196,9 @@ def path_in(tool: bytes, line: bytes) -> bytes:
     return name.rpartition(end[0].encode())[0] if end and end[0] else name
 
 
-def options_of_tool(tool: bytes, has_long: bool = True) -> List[bytes]:
-    """Short options first, by their letters, a small one before the capital one; without long names of short ones, or
-    with."""
-    names = [name for row in options_in(tool) for name in (row.names if has_long else row.names[:1])]
-    return sorted(names, key=lambda name: (len(name) > 2, name.lower(), name.swapcase()))
+def options_of_tool(tool: bytes) -> List[bytes]:
+    """Short options first, by their letters, a small one before the capital one."""
+    return sorted(OPTIONS.get(tool, ()), key=lambda name: (len(name) > 2, name.lower(), name.swapcase()))
 
 
 # --- the words of a line
@@ -246,8 +237,7 @@ def split(words: List[bytes]) -> Split:
             continue
         *letters, (name, value) = options_of(word, values)
         takes_next = value is None and name in values and rest
-        found.given.extend([*(Option(it, b"") for it, _ in letters),
-                            Option(name, rest.pop() if takes_next else value or b"")])
+        found.given.extend([*(Option(it, b"") for it, _ in letters), Option(name, rest.pop() if takes_next else value or b"")])
     found.operands.extend(rest[::-1])
     return found
 

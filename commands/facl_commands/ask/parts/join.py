@@ -1,37 +1,31 @@
-"""facl-ask --each: a script over several snapshots side by side, with the answers joined in path order.
+"""How the answers of several snapshots to a line are joined, those of files in path order.
 
-The snapshots have to be parts of one tree (agreement.py). Each answers the whole script (worker.py). A line is
-then taken where the snapshots agree on it. One that is not taken, since its files lie in several snapshots, may have
+A line is taken where the snapshots agree on it. One that is not taken, since its files lie in several snapshots, may have
 been done by some of them: then all answer the script again, without it.
 """
 from __future__ import annotations
 
-import argparse
+import heapq
 import itertools
-import os
-import re
-from typing import Dict, Iterable, Iterator, List, NamedTuple, Set
+from typing import Dict, Iterable, Iterator, List, NamedTuple, Optional, Set, Tuple
 
-from ...base.folders import EXCHANGED
-from ...base.messages import Command, Failure
-from ...base.names import path_order, read_path, write_name
-from ...model import overview
-from ...model.everybody import ElseAnswers, beside_of, everybody_in
-from ...model.superuser import Superusers
-from ...program.answering import below_heading, lines_for_terminal, write_messages
-from ...program.protocol import ANSWERED, PROGRAM, REFUSED, is_refused, lacking_file, lacks_file, message_of
-from ...program.scripts import Script, Unit, read_text
-from ...program.session import lines_of
+from ...base.names import path_order, read_name, read_path, shown_path, sorting_key, write_name
+from ...base.user_tools import ADD_USER, REMOVE_USER
+from ...model.people import People
+from ...model.records import name_of, path_of
+from ...program.protocol import FILE_HEAD, NO_FILE, PROGRAM, is_refused, lacking_file, lacks_file, message_of
+from ...program.scripts import Unit
+from ...program.session import OutputSlice
 from ...program.tools import (
-    BY_FOLDER, CHANGES_OF_PEOPLE, COUNTING, DEEP, EDITS, FIRST_FILES, LOOK, OF_RECORDS, TEST, options_that, split,
+    ALL, BY_FOLDER, CHANGES_OF_PEOPLE, COUNTING, DEEP, EDITS, FIRST_FILES, LOOK, OF_RECORDS, TEST, options_that, path_in, split,
 )
-from . import SECONDS, counts
-from .agreement import check_agreement, files_of_several
-from .merging import items_of, merged
-from .runs import HERE, HOST, NOT_READABLE, Answered, Part, Server, part_options, run_all
+from .runs import Answered, Part
+from .worker import is_counting
 
-LIKE_HOST = re.compile(rb"[A-Za-z0-9@._-]+:|-[^/]*:")  # What somebody may have meant for a host.
 SEVERAL = b"its files lie in several snapshots; name those of one in a line of its own"
+Item = Tuple[bytes, int, bytes]  # A path, the number of its snapshot, and what is printed for it.
+Key = Tuple[bytes, ...]  # The fields of a line that counts but for COUNT and PATH; the user is the last.
+Sums = Dict[Key, Tuple[int, bytes]]  # How many files, and the name of the first.
 
 
 class Joined(NamedTuple):
@@ -52,7 +46,7 @@ def join_accepted(unit: Unit, accepted: List[Answered]) -> Joined:
     streams = [items_of(unit, place, output) for place, output in enumerate(outputs)]
     messages = accepted[0].header.messages
     if None not in streams:
-        return Joined(merged([stream for stream in streams if stream is not None]), messages)
+        return Joined(merged(filter(None, streams)), messages)
     if unit.is_of(*OF_RECORDS) and len(outputs) > 1 and is_recursive(unit):
         return refused(unit, b"a listing of several snapshots is joined by its headers; omit -c")
     return Joined(outputs[0].pieces(), messages)
@@ -63,36 +57,43 @@ def first_files(unit: Unit, joined: Joined) -> Joined:
     return joined._replace(output=itertools.islice(joined.output, int(split(unit.words).value(FIRST_FILES))))
 
 
-def join_counts(unit: Unit, answers: List[Answered], users: counts.Users, fault: bytes) -> Joined:
-    """The sums of the snapshots that have some of the files of a line that counts, none where there is a fault; or the first of
-    these files."""
+def refusal_of(unit: Unit, messages: List[List[bytes]], lacks: List[List[bytes]]) -> List[bytes]:
+    """The message of a refused line: one that is not about a missing file, or one about the first file that no snapshot has."""
+    for its in messages:
+        if is_refused(its) and not lacks_file(its):
+            return its
+    missing = (name for name in lacks[0] if all(name in names for names in lacks))
+    return [message_of(unit.tool(), shown_path(read_path(write_name(name))) + b": " + NO_FILE) for name in missing][:1]
+
+
+def join_counts(unit: Unit, answers: List[Answered], users: Users, fault: bytes) -> Joined:
+    """The sums of the snapshots that have some files of a line, none where there is a fault; or the first of these files."""
     headers = [it.header for it in answers]
-    refusal = counts.refusal(unit, [it.messages for it in headers], [it.lacks for it in headers])
+    refusal = refusal_of(unit, [it.messages for it in headers], [it.lacks for it in headers])
     accepted = [it for it in answers if not it.is_refused()]
     if refusal or not accepted:
         return Joined(iter(()), refusal or headers[0].messages)
     if split(unit.words).has(BY_FOLDER) and len(accepted) > 1:
         return refused(unit, b"the folders of one snapshot are counted; ask it alone, or omit --depth")
-    if not counts.is_counting(unit):
+    if not is_counting(unit):
         return first_files(unit, join_accepted(unit, accepted))
     if fault and len(accepted) > 1:
         return refused(unit, fault)
-    sums = counts.sums_of(unit, [(it.output.lines(), it.header.shared) for it in accepted])
-    return Joined(iter(counts.lines_of_sums(unit, sums, users)), [])
+    sums = sums_of(unit, [(it.output.lines(), it.header.shared) for it in accepted])
+    return Joined(iter(lines_of_sums(unit, sums, users)), [])
 
 
 def join_all(units: List[Unit], parts: List[Part], dropped: Dict[int, Joined], fault: bytes) -> Dict[int, Joined]:
     """The answers to all lines, of which some are dropped."""
-    users = counts.Users({name: number for part in parts for name, number in part.head.users.items()},
-                         {name: number for part in parts for name, number in part.head.groups.items()})
+    users = Users(dict(it for part in parts for it in part.head.users.items()),
+                  dict(it for part in parts for it in part.head.groups.items()))
     joined: Dict[int, Joined] = {}
     for unit in units:
         if unit.number in dropped:  # Nobody has answered it.
             joined[unit.number] = dropped[unit.number]
         else:
             answers = [part.answers[unit.number] for part in parts]
-            is_sum = unit.is_of(*COUNTING)
-            joined[unit.number] = join_counts(unit, answers, users, fault) if is_sum else join(unit, answers)
+            joined[unit.number] = join_counts(unit, answers, users, fault) if unit.is_of(*COUNTING) else join(unit, answers)
         if not is_refused(joined[unit.number].messages):
             users.follow(unit)
     return joined
@@ -130,8 +131,7 @@ def is_recursive(unit: Unit) -> bool:
 
 
 def join_refusals(unit: Unit, answers: List[Answered]) -> Joined:
-    """The message of a line that no snapshot accepts: one that is not about a missing file comes first, and then one
-    about a file that no snapshot has."""
+    """The message of a line that no snapshot accepts: that of another fault, else one about a file that no snapshot has."""
     messages = [it.header.messages for it in answers]
     others = [it for it in messages if not lacks_file(it)]
     known = {read_path(write_name(name)) for it in answers for name in it.header.has}
@@ -149,126 +149,79 @@ def without(script: bytes, units: List[Unit], dropped: Set[int]) -> bytes:
     return b"\n".join(lines)
 
 
-def say_notices(command: Command, parts: List[Part], is_acl5: bool) -> None:
-    """What the snapshots cannot tell, each of it once, and where acl(5)'s check judges by how many lists Linux grants
-    otherwise."""
-    known: Dict[bytes, bytes] = {}
-    for part in parts:
-        for text in part.head.unknown:
-            known.setdefault(text, part.label)
-    for text, label in known.items():
-        command.say(label + b": " + text)
-    if is_acl5:
-        names = {name for part in parts for name in part.head.otherwise}
-        command.say(overview.by_acl5(sorted(names, key=lambda name: path_order(read_path(name)))))
+# --- what several snapshots print of files
 
 
-def check_same(known: List[Part], parts: List[Part]) -> None:
-    """Fails where a snapshot that answers again is another one."""
-    for before, part in zip(known, parts):
-        if part.head.state != before.head.state:
-            raise Failure(part.label + EXCHANGED)
+def items_of(unit: Unit, place: int, output: OutputSlice) -> Optional[Iterator[Item]]:
+    """What a line printed, file by file; None where it names no files."""
+    tool = unit.form()
+    if tool in OF_RECORDS:
+        start = output._replace(end=min(output.end, output.start + len(FILE_HEAD))).read()
+        if start in (b"", FILE_HEAD):
+            return ((sorting_key(path_of(name_of(it))), place, it + b"\n\n") for it in output.records())
+    elif tool in ALL and "PATH" in ALL[tool].prints:
+        return ((sorting_key(path_of(path_in(tool, line))), place, line + b"\n") for line in output.lines())
+    return None
 
 
-def superusers_of(parts: List[Part], with_root: bool) -> Superusers:
-    """Who is left out of answers about people."""
-    ids = {name.encode("latin-1"): number for part in parts for name, number in part.head.users.items()}
-    return Superusers({} if with_root else ids)
+def merged(streams: Iterable[Iterator[Item]]) -> Iterator[bytes]:
+    """The files in path order; of one that several snapshots have, what the first of them printed."""
+    last: Optional[Tuple[bytes, int]] = None
+    for key, place, text in heapq.merge(*streams, key=lambda item: item[:2]):
+        if last is not None and last[0] == key and last[1] != place:
+            continue
+        last = (key, place)
+        yield text
 
 
-def servers_of(folders: List[bytes]) -> List[Server]:
-    """The snapshots, HOST:DIR, or a folder of this machine; those of one machine follow each other."""
-    found: List[Server] = []
-    for folder in folders:
-        match = None if os.path.exists(folder) else HOST.match(folder)
-        if match is None and LIKE_HOST.match(folder) and not os.path.exists(folder):
-            raise Failure(folder + b": a HOST starts with a letter, a digit or _, so that no program takes it for "
-                                   b"something else")
-        found.append(Server(match[1], match[1], match[2]) if match else Server(HERE, HERE, folder))
-    hosts = [server.host for server in found]
-    return sorted(found, key=lambda server: hosts.index(server.host))
+# --- sums of what several snapshots count
 
 
-def run_parts(servers: List[Server], options: List[bytes], script: bytes, seconds: int) -> List[Part]:
-    """The answers of all snapshots, of which those of another machine end after `seconds`."""
-    parts: List[Part] = []
-    for server, outcome in zip(servers, run_all(servers, options, script, seconds)):
-        if isinstance(outcome, Failure):
-            raise Failure((server.host + b": " if server.host else b"") + outcome.text)
-        parts.append(outcome)
-    return parts
+def fields_of(unit: Unit) -> List[str]:
+    """The fields of the lines of an answer, of which PATH is the last."""
+    return ALL[unit.tool()].prints.split()
 
 
-def answer_script(command: Command, script: Script, servers: List[Server], given: argparse.Namespace) -> int:
-    """Answers a script over all snapshots, again where it has lines that count, and for each line that is dropped."""
-    units = script.units()
-    dropped: Dict[int, Joined] = {}
-    answers = ElseAnswers(everybody_in(lambda: [script.text]))
-    program, seconds = part_options(given, answers.everybody), given.timeout or SECONDS
-    parts = run_parts(servers, [*[b"--records"] * (len(servers) > 1), *program], script.text, seconds)
-    check_agreement(parts)
-    say_notices(command, parts, given.acl5)
-    shared = files_of_several(parts) if any(map(counts.is_counting, units)) else []
-    options = counts.shared_options(shared)
-    fault = counts.too_many(shared) if options is None else b""
-    is_answered = not options  # Else they answer again, and say what they count of the files that several have.
-    while True:
-        if not is_answered:
-            known, rest = parts, without(script.text, units, set(dropped))
-            parts = run_parts(servers, [*(options or []), *program], rest, seconds)
-            check_same(known, parts)
-        joined = join_all(units, parts, dropped, fault)
-        new = next((number for number, it in joined.items() if it.is_dropped and number not in dropped), None)
-        if new is None:
-            people = PeopleShown(superusers_of(parts, given.with_root), answers)
-            status = write(command, units, joined, people, given.headings)
-            for line in beside_of(max(part.head.asked for part in parts)) if answers.was_shown else ():
-                command.say(line)
-            return status
-        dropped[new], is_answered = joined[new], False
+def sums_of(unit: Unit, answers: List[Tuple[Iterable[bytes], List[bytes]]]) -> Sums:
+    """The sums of what snapshots answer: of each its lines, and the files that others may have, with their keys. For a
+    user a file is counted by the first snapshot that counts it."""
+    fields = fields_of(unit)
+    place = fields.index("COUNT")
+    found: Sums = {}
+    seen: Set[Tuple[bytes, bytes]] = set()
+    for lines, shared in answers:
+        for line in lines:
+            *words, name = line.split(b" ", len(fields) - 1)
+            key = (*words[:place], *words[place + 1 :])
+            count, first = found.get(key, (0, name))
+            found[key] = count + int(words[place]), min(first, name, key=lambda it: sorting_key(path_of(it)))
+        for path, *keys in (it.split(b"\0") for it in shared):
+            for key in (tuple(it.split(b" ")) for it in keys):
+                found[key] = found[key][0] - ((path, key[-1]) in seen), found[key][1]
+                seen.add((path, key[-1]))
+    return {key: it for key, it in found.items() if it[0]}
 
 
-def body(command: Command, folders: List[str], given: argparse.Namespace) -> int:
-    """Answers standard input over all snapshots."""
-    servers = servers_of(list(map(os.fsencode, folders)))
-    try:
-        return answer_script(command, read_text("-"), servers, given)
-    except (LookupError, ValueError) as error:
-        raise Failure(NOT_READABLE) from error
+class Users(People):
+    """The users in their order: those who are there, and then those who went."""
+
+    def __init__(self, users: Dict[str, int], groups: Dict[str, int]) -> None:
+        super().__init__(*(b"".join(b"%s:x:%d:%s\n" % (name.encode("latin-1"), number, rest) for name, number in ids.items())
+                           for ids, rest in ((users, b"0:::"), (groups, b""))))
+        self.loaded = [user.name for user in self.users]
+
+    def follow(self, unit: Unit) -> None:
+        """An accepted line may add or remove one."""
+        if unit.is_of(ADD_USER, REMOVE_USER):
+            self.change(unit.words)
+
+    def places(self) -> Dict[bytes, int]:
+        names = dict.fromkeys([*(user.name for user in self.users), *self.loaded])
+        return {name: place for place, name in enumerate(names)}
 
 
-class PeopleShown(NamedTuple):
-    """Who is left out of answers about people, and who is in them beside users."""
-
-    superusers: Superusers
-    answers: ElseAnswers
-
-    def lines(self, unit: Unit, lines: Iterable[bytes]) -> Iterator[bytes]:
-        """The lines of an answer."""
-        return self.answers.first(unit.tool(), self.superusers.rest(unit, lines))
-
-
-def pieces_of(unit: Unit, answer: Joined, people: PeopleShown, has_headings: bool) -> Iterator[bytes]:
-    """What is printed of an answer."""
-    if has_headings:
-        return below_heading(unit, people.lines(unit, lines_of(answer.output)), answer.messages)
-    if people.superusers.is_about_people(unit) or os.isatty(1):
-        return (line + b"\n" for line in lines_for_terminal(people.lines(unit, lines_of(answer.output))))
-    return answer.output
-
-
-def write(command: Command, units: List[Unit], joined: Dict[int, Joined], people: PeopleShown,
-          has_headings: bool) -> int:
-    status, superusers = ANSWERED, people.superusers
-    for unit in units:
-        answer = joined[unit.number]
-        for text in pieces_of(unit, answer, people, has_headings):
-            command.write(text)
-        write_messages(command, b"line %d" % unit.number, unit, answer.messages)
-        if is_refused(answer.messages):
-            status = REFUSED
-        else:
-            superusers.follow(unit)
-    if superusers.has_left_out:
-        command.say(superusers.note())
-    return status
+def lines_of_sums(unit: Unit, sums: Sums, users: Users) -> List[bytes]:
+    """The lines in their order: by users, and then by what is before COUNT."""
+    place, places = fields_of(unit).index("COUNT"), users.places()
+    keys = sorted(sums, key=lambda key: (places.get(read_name(key[-1]), len(places)), key))
+    return [b" ".join([*key[:place], b"%d" % sums[key][0], *key[place:], sums[key][1]]) + b"\n" for key in keys]

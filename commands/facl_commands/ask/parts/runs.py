@@ -20,18 +20,16 @@ from ...program.protocol import is_refused
 from ...program.scripts import read_script
 from ...program.session import OutputSlice
 from . import SECONDS
-from .worker import Head, Header, read_head, read_header
+from .worker import Head, Header, read_row
 
 NAME_OF_HOST = rb"[A-Za-z0-9_][A-Za-z0-9._-]*"
 HOST = re.compile(rb"((?:" + NAME_OF_HOST + rb"@)?" + NAME_OF_HOST + rb"):(.*)\Z", re.DOTALL)
+LIKE_HOST = re.compile(rb"[A-Za-z0-9@._-]+:|-[^/]*:")  # What somebody may have meant for a host.
 HERE = b""  # The host of a snapshot on this machine.
-PATIENCE = 10  # Seconds that a run has to end after SIGTERM.
+THIS = b"localhost"  # The name of this machine as a server, which needs no ssh.
 MOST_READ = 16_777_216  # Bytes of another machine's answers that are read into memory.
 MOST_WRITTEN = 1 << 32  # Bytes that it may write into one file, where there is room.
-MOST_SAID = 10_000  # Bytes of its messages in which the first one is looked for.
 CUT = b"a snapshot did not answer to the end"
-NAME = b"facl-ask: "  # Before a message of it.
-NOT_FOUND = 127  # The status of a shell that finds no such command.
 NOT_READABLE = b"an answer cannot be read; facl may be of another version there"
 OTHER_VERSION = b"facl there is of another version, which does not take what this one asks"
 
@@ -49,6 +47,33 @@ class Server(NamedTuple):
         if self.host == HERE:
             return [os.fsencode(sys.executable), b"-I", os.fsencode(os.path.join(HOME, "facl-ask")), b"--part", *words]
         return [b"ssh", b"--", self.host, os.fsencode(shlex.join(["facl", PART, *map(os.fsdecode, words)]))]
+
+
+def servers_of(folders: List[bytes]) -> List[Server]:
+    """The snapshots of --each, HOST:DIR, or a folder of this machine; those of one machine follow each other."""
+    found: List[Server] = []
+    for folder in folders:
+        match = None if os.path.exists(folder) else HOST.match(folder)
+        if match is None and LIKE_HOST.match(folder) and not os.path.exists(folder):
+            raise Failure(folder + b": a HOST starts with a letter, a digit or _, so that no program takes it for "
+                                   b"something else")
+        found.append(Server(match[1], match[1], match[2]) if match else Server(HERE, HERE, folder))
+    hosts = [server.host for server in found]
+    return sorted(found, key=lambda server: hosts.index(server.host))
+
+
+def read_servers(words: List[bytes]) -> List[Server]:
+    """The servers of --hosts; a name is that of a HOST of --each."""
+    found: Dict[bytes, Server] = {}
+    for word in words:
+        match = HOST.match(word)
+        if match is None:
+            raise Failure(word + b": a server is NAME:DIR, and NAME starts with a letter, a digit or _")
+        name = match[1]
+        if name in found:
+            raise Failure(word + b": is the second snapshot of " + name + b": ask each of one server in a run of its own")
+        found[name] = Server(name, HERE if name == THIS else name, match[2])
+    return list(found.values())
 
 
 class Answered(NamedTuple):
@@ -79,8 +104,8 @@ def part_options(given: argparse.Namespace, everybody: Everybody) -> List[bytes]
 
 
 def run_all(servers: List[Server], options: Sequence[bytes], script: bytes, seconds: int = SECONDS) -> List[Outcome]:
-    """Runs facl-ask over all snapshots side by side, and reads what each wrote. Another machine has `seconds` for it,
-    and leaves the others room for as much as it writes."""
+    """Runs facl-ask over all snapshots side by side, and reads what each wrote. Another machine has `seconds` for it, and leaves
+    the others room for as much as it writes."""
     numbers = [unit.number for unit in read_script(b"", script)]
     runs: List[PartRun] = []
     with scratch.new_file("facl-ask.") as file:
@@ -90,7 +115,7 @@ def run_all(servers: List[Server], options: Sequence[bytes], script: bytes, seco
         room = min(MOST_WRITTEN, look.f_bavail * look.f_frsize // (2 * len(servers) + 1))
         try:
             for server in servers:
-                runs.append(PartRun(server, server.words(options), file, room, seconds))
+                runs.append(PartRun(server, options, file, room, seconds))
             return [run.outcome(numbers) for run in runs]
         finally:
             for run in runs:
@@ -100,24 +125,23 @@ def run_all(servers: List[Server], options: Sequence[bytes], script: bytes, seco
 
 
 class PartRun:
-    """A run of facl-ask over a snapshot, and what it wrote: each step of reading ends at the next byte that is not
-    read, or fails."""
+    """A run of facl-ask over a snapshot, and what it wrote: each step of reading ends at the next unread byte, or fails."""
 
-    def __init__(self, server: Server, words: List[bytes], script: IO[bytes], room: int, seconds: int) -> None:
+    def __init__(self, server: Server, options: Sequence[bytes], script: IO[bytes], room: int, seconds: int) -> None:
         self.server, self.is_here, self.room, self.seconds = server, server.host == HERE, room, seconds
         self.last = time.monotonic() + seconds
         self.out, self.messages = scratch.new_file("facl-ask."), scratch.new_file("facl-ask.")
         with open("/proc/self/fd/%d" % script.fileno(), "rb") as given:  # From its start.
-            self.process = subprocess.Popen(words, stdin=given, stdout=self.out, stderr=self.messages,
+            self.process = subprocess.Popen(server.words(options), stdin=given, stdout=self.out, stderr=self.messages,
                                             env={**environment_of_called(), "LC_ALL": "C"})
         if not self.is_here:
             resource.prlimit(self.process.pid, resource.RLIMIT_FSIZE, (room, room))
             resource.prlimit(self.process.pid, resource.RLIMIT_CORE, (0, 0))
 
     def end(self) -> None:
-        """Waits for the end, after SIGTERM."""
+        """Waits ten seconds for the end, after SIGTERM."""
         try:
-            self.process.wait(PATIENCE)
+            self.process.wait(10)
         except subprocess.TimeoutExpired:
             self.process.kill()
             self.process.wait()
@@ -141,20 +165,19 @@ class PartRun:
         if not self.is_here and max(self.size, said) >= self.room:
             raise Failure(b"what it wrote takes more than the %d bytes that there is room for" % self.room)
         if self.process.returncode != 0:
-            raise Failure(self.reason(os.pread(self.messages.fileno(), MOST_SAID, 0)))
+            raise Failure(self.reason(os.pread(self.messages.fileno(), 10_000, 0)))
         if self.size == 0:
             raise Failure(b"did not answer")
         self.room = self.size if self.is_here else MOST_READ  # For what is kept in memory.
         self.out.seek(0)
 
     def reason(self, said: bytes) -> bytes:
-        """Why it ended, by the first of its messages. Where facl is not there, or does not take these words, that is of a
-        shell, or of another version."""
-        text = next(filter(None, said.splitlines()), b"").removeprefix(NAME)
+        """Why it ended, by the first of its messages, which may be that of a shell, or of another version."""
+        text = next(filter(None, said.splitlines()), b"").removeprefix(b"facl-ask: ")
         status = self.process.returncode
         if text.startswith((b"usage: ", b"facl: " + PART.encode())):
             return OTHER_VERSION
-        if status == NOT_FOUND and not self.is_here:
+        if status == 127 and not self.is_here:  # Of a shell that finds no such command.
             return b"facl is not on the path there" + (b": " + text if text else b"")
         return text or b"facl ended with status %d" % (status if status > 0 else 128 - status)
 
@@ -177,13 +200,13 @@ class PartRun:
 
     def part(self, numbers: Sequence[int]) -> Part:
         """The head, the answers, and the last line."""
-        head = read_head(self.line())
+        head = read_row(Head, self.line())
         files = self.piece(head.size)
         answers: Dict[int, Answered] = {}
         for number in numbers:
-            header = read_header(self.line())
+            header = read_row(Header, self.line())
             answers[number] = Answered(header, self.piece(header.size))
-            if header.line != number or self.line() != b"\n":
+            if header.line != number or any(b"\n" in it for it in header.messages) or self.line() != b"\n":
                 raise ValueError
         if self.line() != b"end\n" or self.out.tell() != self.size:
             raise ValueError

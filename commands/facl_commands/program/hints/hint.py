@@ -9,7 +9,6 @@ from ...base.names import shown
 from ..protocol import PROGRAM, UNKNOWN_TOOL, USAGE, has_text, message_of
 from ..scripts import Unit, words_of
 from ..tools import ALL, HARMLESS, LOADERS, OPTIONS, TEXT, TEXT_WORDS, Option, options_with, split
-from .pasting import harmless, quoted
 from .rows import ROWS, HintRow
 
 MARK = b"  in the script: "  # No command of a shell has the name `in`.
@@ -18,6 +17,11 @@ BLANKS = re.compile(rb"('[^']*')|[ \t]+")
 SYNOPSES = {b"below": b"[--reach] [--plain | --directories] [--user=USER --list=N | [--user=USER] --depth=N] PERMS FILE..",
             b"creat": b"[-d] --user=USER --mode=MODE [--umask=MASK] FILE", b"gpasswd": b"-a USER GROUP | gpasswd -d USER GROUP",
             b"setattr": b"NAME=0xHEX FILE", b"usermod": b"-g GROUP USER", b"useradd": b"-u UID -g GROUP NAME"}
+# What a shell takes as it is; an escape of the script language is three digits there.
+PLAIN_CHARACTER = rb"[A-Za-z0-9_./:=@%+,\x80-\xff-]|\\[0-3][0-7][0-7]"
+PLAIN = re.compile(rb"(?:" + PLAIN_CHARACTER + rb")+")
+HARMLESS_LINE = re.compile(rb"(?:" + PLAIN_CHARACTER + rb"|'[^']*'|[ \t])+")
+IN_DOUBLE_QUOTES = re.compile(rb"('[^']*')|(?<![^ \t])\"([^\"']*)\"(?![^ \t])")  # A word; what is in single quotes is none.
 
 
 class Hint(NamedTuple):
@@ -64,8 +68,7 @@ def synopsis(tool: bytes) -> bytes:
 
 
 def of_usage(words: List[bytes]) -> Hint:
-    """Returns the synopsis, with the options that the tool does not have; and the line without them where they say nothing
-    here."""
+    """Returns the synopsis, with options that the tool does not have; and the line without them where they say nothing here."""
     tool, line = words[0], split(words)
     unknown = dict.fromkeys(it.name for it in line.given if it.name not in OPTIONS[tool])
     if not unknown:
@@ -94,8 +97,7 @@ def explained(unit: Unit, message: bytes) -> List[bytes]:
 
 
 def explained_by_number(units: Dict[int, Unit], message: bytes) -> List[bytes]:
-    """The same of a message as the program prints it, with the number of its line; units by the numbers of their
-    lines."""
+    """The same of a message as the program prints it, with the number of its line; units by these numbers."""
     found = re.match(rb"line ([0-9]+): (.*)\Z", message, re.DOTALL)
     unit = units.get(int(found[1])) if found else None
     return [] if found is None or unit is None else explained(unit, found[2])
@@ -112,3 +114,21 @@ def swallowed(unit: Unit) -> List[bytes]:
     first, last = unit.number + 1, unit.number + taken
     which = b"line %d was" % first if taken == 1 else b"lines %d to %d were" % (first, last)
     return [b"".join([which, b" taken as the text of line %d" % unit.number, *why])]
+
+
+# --- lines that a person may paste into a shell, where they run nothing but their first word
+
+
+def quoted(word: bytes) -> bytes:
+    """Writes a word for a line of a script: in quotes if a shell would not take it as it is."""
+    return word if PLAIN.fullmatch(word) else b"'" + word.replace(b"'", b"\\047") + b"'"
+
+
+def harmless(text: bytes) -> Optional[bytes]:
+    """Writes a line so that it does nothing in a shell but call its first word: each word is plain or in quotes, also one in
+    double quotes, which do not quote here. Returns None if `text` is no line of a tool."""
+    text = IN_DOUBLE_QUOTES.sub(lambda found: found[1] or b"'" + found[2] + b"'", text)
+    words = words_of(text)
+    if not words or words[0] not in OPTIONS:
+        return None
+    return text if HARMLESS_LINE.fullmatch(text) else b" ".join(map(quoted, words))
