@@ -69,10 +69,10 @@ class Taking:
         self.lacks = True
         self.command.say(text)
 
-    def warn(self, text: bytes, number: int = 1, first: bytes = b"", is_of_files: bool = False) -> None:
+    def warn(self, text: bytes, number: int = 1, first: Optional[bytes] = None, is_of_files: bool = False) -> None:
         """Warns where there is something; of files that could not be read also with --quiet."""
         if number and (is_of_files or not self.words.is_quiet):
-            self.command.say(b"warning: " + text + (b": %d, first: %s" % (number, first) if first else b""))
+            self.command.say(b"warning: " + text + (b"" if first is None else b": %d, first: %s" % (number, first)))
 
     def warn_of_part(self, part: Recording) -> None:
         """Of a part; of users and groups with the first one."""
