@@ -26,7 +26,7 @@ from facl_commands.base import acl_bytes, beside, names, workers  # noqa: E402
 from facl_commands.base.accounts import is_person  # noqa: E402
 from facl_commands.base.names import path_order  # noqa: E402
 from facl_commands.page import columns as page_columns  # noqa: E402
-from facl_commands.snapshot import in_order, list_texts, rests, runs, scope, walking  # noqa: E402
+from facl_commands.snapshot import in_order, list_texts, runs, scope, walking  # noqa: E402
 
 FILES = ["dump", "group", "inodes", "links", "marks", "meta", "passwd"]
 
@@ -177,11 +177,11 @@ ln -sf kept 'l\nf'; rm folder gone; mkdir folder; mv d1 d && mv d2 d1 && mv d d2
     def test_another_process_goes_on_in_the_same_directory_alone(self) -> None:
         """Where another one has its name, nothing in it is looked at."""
         top = os.path.realpath(os.fsencode(self.path("tree")))
-        rest = rests.Rest(top + b"/a/", os.stat(top).st_dev, os.stat(top + b"/a").st_ino, b"rw", True, b"1\x002", 2)
+        rest = walking.Rest(top + b"/a/", os.stat(top).st_dev, os.stat(top + b"/a").st_ino, b"rw", True, b"1\x002", 2)
         walker = walking.Walker(scope.Scope([top], [], False, (0, 0)))
-        self.assertEqual([walker.walk([rest]).run.name(place) for place in (0, 1)], [top + b"/a/1", top + b"/a/2"])
-        found = walker.walk([rest._replace(inode=rest.inode + 1)])
-        self.assertEqual((found.run.dump, found.left_out.first[runs.UNREAD]), (b"", top + b"/a/: was exchanged for another file, or removed, meanwhile"))
+        self.assertEqual([runs.name_in(row[1]) for row in walker.walk(rest).rows], [top + b"/a/1", top + b"/a/2"])
+        found = walker.walk(rest._replace(inode=rest.inode + 1))
+        self.assertEqual((found.rows, found.left_out.first[runs.UNREAD]), ([], top + b"/a/: was exchanged for another file, or removed, meanwhile"))
 
     def test_a_link_above_the_folder(self) -> None:
         """A user who owns a directory above the FOLDER puts a link in its place."""
@@ -203,7 +203,7 @@ ln -sf kept 'l\nf'; rm folder gone; mkdir folder; mv d1 d && mv d2 d1 && mv d d2
             self.expect_status(done, 2, b"facl-snapshot: more than %s names were found: name fewer FOLDERs; " % most)
             self.expect_nothing_left()
         for code in ("scope.MOST_NAMES = 30", "walking.MOST_BYTES = 150"):  # Its names are not even read to their end.
-            self.add_code("from . import scope, walking\nwalking.SORTED_AT_ONCE = 10\n" + code)
+            self.add_code("from . import scope, walking\n" + code)
             self.expect_status(self.snapshot("new", "tree"), 2, b"tree: more names are in it than can be recorded: leave it out with --exclude\n")
         for number in range(20):
             self.write(f"tree/a/file{number}", b"")
@@ -219,11 +219,11 @@ ln -sf kept 'l\nf'; rm folder gone; mkdir folder; mv d1 d && mv d2 d1 && mv d d2
                 self.write(f"tree/{number}/deep/{name}", b"")
                 self.write(f"tree/flat{number}-{name}", b"")
         os.link(self.path("tree/5/deep/1"), self.path("tree/39/deep/hard"))
-        few = "from . import walking\nwalking.MANY, walking.DEEPEST, walking.SORTED_AT_ONCE = 7, 4, 10\n"
+        few = "from . import walking\nwalking.MANY, walking.DEEPEST = 7, 4\n"
         several = few + "from ..base import workers\nfrom . import in_order\nin_order.MANY, workers.MANY = 7, 10\nos.geteuid = lambda: 0\nos.cpu_count = lambda: 3\n"
-        ended = several + "real = walking.Walker.walk\ndef walk(self, rests):\n    if os.getppid() == FIRST and any(b'20' in it.names for it in rests):\n" \
-            "        os._exit(1)\n    return real(self, rests)\nwalking.Walker.walk, FIRST = walk, os.getpid()\n"
-        short = "from . import walking\nwalking.MOST_TEXT = 700\n"
+        ended = several + "real = walking.Walker.walk\ndef walk(self, rest):\n    if os.getppid() == FIRST and b'20' in rest.names:\n" \
+            "        os._exit(1)\n    return real(self, rest)\nwalking.Walker.walk, FIRST = walk, os.getpid()\n"
+        short = "from . import walking\nwalking.MOST_TEXT = 1\n"
         for target, code in (("one", ""), ("two", few), ("three", several), ("four", ended), ("five", short)):
             self.add_code(code)
             self.expect_status(self.snapshot(target, "tree"), 0)
@@ -242,7 +242,7 @@ ln -sf kept 'l\nf'; rm folder gone; mkdir folder; mv d1 d && mv d2 d1 && mv d d2
         """Each name once, in order."""
         names = [b"%d" % number for number in range(3000)]
         for weight in (1, 30, 5000):
-            whole = rests.START_OF_ALL._replace(names=b"\0".join(names), number=len(names), weight=weight)
+            whole = walking.START_OF_ALL._replace(names=b"\0".join(names), number=len(names), weight=weight)
             found: List[bytes] = []
             while whole.number:
                 piece, whole = whole.cut(in_order.cut_size(whole, 4))
@@ -412,7 +412,7 @@ ln -sf kept 'l\nf'; rm folder gone; mkdir folder; mv d1 d && mv d2 d1 && mv d d2
         sums = runs.Sums()
         for number in range(3):
             ids = frozenset(range(10 ** 6 * number, 10 ** 6 * number + 200_000))
-            sums.add_run(runs.Run(b"", b"1 1 0.0 /%d\0" % number, [], bytes(8), [0], [0], [(number, number, ids, ids)]))
+            sums.add([(b"", b"1 1 0.0 /%d\0" % number, b"", 0, 0, (number, number, ids, ids))])
         self.assertEqual((sums.owners, sums.owning_groups, len(sums.users), len(sums.groups), sums.has_too_many_ids),
                          ({0, 1, 2}, {0, 1, 2}, 400_000, 400_000, True))
 
@@ -421,9 +421,8 @@ ln -sf kept 'l\nf'; rm folder gone; mkdir folder; mv d1 d && mv d2 d1 && mv d d2
         old = self.read("new/dump")
         self.add_code("""
 from . import walking
-def look(self, level, names):
-    self.complain(level.rest.path + names[0], PermissionError(13, "no"))
-    return 1, None
+def look(self, rest, folder, name, depth):
+    self.complain(rest.path + name, PermissionError(13, "no"))
 walking.Walker.look = look
 """)
         for name in ("new", "third"):

@@ -24,7 +24,7 @@ from facl_commands.questions.diff import command as diff  # noqa: E402
 from facl_commands.questions.diff import report as diff_report  # noqa: E402
 from facl_commands.snapshot.list_texts import shown_name  # noqa: E402
 from facl_commands.snapshot.recording import record  # noqa: E402
-from facl_commands.snapshot.runs import IS_FOLDER, LeftOut, Run  # noqa: E402
+from facl_commands.snapshot.runs import IS_FOLDER, LeftOut, Row  # noqa: E402
 from facl_commands.snapshot.walking import Walked  # noqa: E402
 
 COUNT = 7  # Files of a part.
@@ -69,20 +69,18 @@ class World:
         for it in [it for it in self.files if it == old or it.startswith(old + b"/")]:
             self.files[new + it[len(old):]] = self.files.pop(it)
 
-    def run(self) -> Run:
+    def rows(self) -> List[Row]:
         """All files, as facl-snapshot finds them."""
         files = [(b"/" + path + b"/" * (it.is_folder and path != b""), it)
                  for path, it in sorted(self.files.items(), key=lambda its: sorting_key(its[0]))]
-        return Run(b"".join(b"# file: %s\n%s\n" % (shown_name(name), it.body) for name, it in files),
-                   b"".join(b"1 %d %d.000000001 %s\0" % (it.inode, it.inode, name) for name, it in files), [],
-                   b"".join(it.inode.to_bytes(8, "little") for _, it in files), [IS_FOLDER * it.is_folder for _, it in files],
-                   [0] * len(files), [(0, 0, frozenset(), frozenset())])
+        return [(b"# file: %s\n%s\n" % (shown_name(name), it.body), b"1 %d %d.000000001 %s\0" % (it.inode, it.inode, name), b"",
+                 it.inode, IS_FOLDER * it.is_folder, (0, 0, frozenset(), frozenset())) for name, it in files]
 
     def write(self, folder: str, count: Optional[int] = None) -> None:
         """Writes a snapshot, or its parts."""
         os.makedirs(folder, 0o700)
         opened = os.open(folder, os.O_RDONLY)
-        parts = record([Walked(self.run(), LeftOut(), [])], opened, count, LeftOut())
+        parts = record([Walked(self.rows(), LeftOut(), [])], opened, count, LeftOut())
         os.close(opened)
         for part in parts:
             more = b"part %s of %03d\n" % (part.name, len(parts)) if count else b""

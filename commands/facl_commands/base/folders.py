@@ -9,15 +9,18 @@ from __future__ import annotations
 import contextlib
 import errno
 import os
+import re
 import stat
 from typing import Dict, Iterator, List, NamedTuple, Optional, Tuple
 
 from . import beside, scratch, trusted
-from .attempts import failing
+from .attempts import failing, held
 from .messages import Failure
+from .new_file import DIRECTORY
 
 TEXTS = (b"passwd", b"group", b"dump")  # Which the program loads.
 FILES = (*TEXTS, b"links", b"inodes", beside.NAME, b"meta")
+PART = re.compile(rb"[0-9]{3,7}")  # The folder of a part of a snapshot (--split).
 FIRST = b"001"  # Of several snapshots of a tree, which are in one folder.
 FILE_LIMIT = 268_435_456  # Bytes of a dump that the program loads.
 TRIES = 20  # To open a folder that others replace.
@@ -137,6 +140,21 @@ def parts_in(folder: int) -> List[bytes]:
         return names if FIRST in names and stat.S_ISDIR(os.stat(FIRST, dir_fd=folder).st_mode) else []
     except FileNotFoundError:  # A link to nothing, or it was removed.
         return []
+
+
+def remove_snapshot(name: bytes, above: int) -> bool:
+    """Removes the files in the folder of a snapshot and of its parts, and the folders in which nothing else is; whether it is gone."""
+    with held(os.open(name, DIRECTORY, dir_fd=above)) as folder:
+        for known in FILES:
+            with contextlib.suppress(FileNotFoundError, IsADirectoryError):
+                os.unlink(known, dir_fd=folder)
+        for part in sorted(filter(PART.fullmatch, map(os.fsencode, os.listdir(folder)))):
+            if stat.S_ISDIR(os.stat(part, dir_fd=folder, follow_symlinks=False).st_mode):
+                remove_snapshot(part, folder)
+    with contextlib.suppress(OSError):
+        os.rmdir(name, dir_fd=above)
+        return True
+    return False
 
 
 def open_files(way: trusted.Way, name: bytes) -> Folder:

@@ -28,11 +28,7 @@ def environment() -> Dict[str, str]:
 def read_some(stream: IO[bytes]) -> bytes:
     """What a command prints, up to a limit."""
     kept = stream.read(SAID_LIMIT)
-    more = 0
-    piece = stream.read(1 << 16)
-    while piece:
-        more += len(piece)
-        piece = stream.read(1 << 16)
+    more = sum(map(len, iter(lambda: stream.read(1 << 16), b"")))
     return kept + (b"\n.. and %d bytes more\n" % more if more else b"")
 
 
@@ -67,17 +63,10 @@ class Children:
         """Runs a command of those beside this one; the messages that it prints name its verb. It has the descriptors that are
         passed; a lock is held as long as one of its processes is there."""
         self.check()
-        said: List[bytes] = []
         words = [os.path.join(HOME, words[0]), *words[1:]]
-        child = subprocess.Popen(words, stdin=subprocess.DEVNULL, stdout=subprocess.PIPE, stderr=subprocess.STDOUT,
-                                 pass_fds=passed, env=environment())
-        status = self.status_of(child, said)
-        return Done(status, NAME.sub(rb"facl \1: ", b"".join(said)))
-
-    def wait_for_interrupted(self) -> None:
-        """Waits for the command that a signal ended, since it removes what it made."""
-        for child in self.interrupted:
-            child.wait()
+        done = self.ended(subprocess.Popen(words, stdin=subprocess.DEVNULL, stdout=subprocess.PIPE, stderr=subprocess.STDOUT,
+                                           pass_fds=passed, env=environment()))
+        return Done(done.status, NAME.sub(rb"facl \1: ", done.said))
 
     def send(self, words: List[str], text: bytes) -> int:
         """Gives a command a text as its standard input, which is complete before the command starts; returns its status."""
@@ -86,17 +75,18 @@ class Children:
             file.write(text)
             file.seek(0)
             child = subprocess.Popen(words, stdin=file)
-        return self.status_of(child)
+        return self.ended(child).status
 
-    def status_of(self, child: "subprocess.Popen[bytes]", said: Optional[List[bytes]] = None) -> int:
-        """Waits for a command; what it prints is added to `said`."""
+    def ended(self, child: "subprocess.Popen[bytes]") -> Done:
+        """Waits for a command, and for the end of what it prints."""
+        said = b""
         try:
             self.is_waiting = True
             self.check()
-            if said is not None and child.stdout is not None:
+            if child.stdout is not None:
                 with child.stdout:
-                    said.append(read_some(child.stdout))
-            return child.wait()
+                    said = read_some(child.stdout)
+            return Done(child.wait(), said)
         except Interrupted:
             child.terminate()
             self.interrupted.append(child)

@@ -12,8 +12,6 @@ from .folder import NEW, DailyFolder
 from .text import Text, find_sendmail
 from .words import HELP, Words, address_of, read_words
 
-SNAPSHOT = "facl-snapshot"
-KILLED = b"an earlier run was killed"
 ANSWERED = (0, 1)  # Statuses of a command that could be asked.
 
 
@@ -24,7 +22,7 @@ class Asking:
         self.given, self.folder, self.children, self.text = given, folder, children, text
         self.names = folder.made()
         self.new_name = folder.new_name(text.day, self.names)
-        self.place = os.path.join(folder.name, folder.work, NEW)
+        self.place = os.fsdecode(os.path.join(folder.name, folder.work, NEW))
 
     def ask(self, title: bytes, *words: str) -> int:
         """Runs a command, and adds what it printed where there is something to look at, with the name that the snapshot gets."""
@@ -32,13 +30,13 @@ class Asking:
         said = done.said.replace(self.folder.work + b"/" + NEW, self.new_name)
         if done.status not in ANSWERED:
             self.text.fail(title, done.status, said)
-        elif done.status == 1 or words[0] == SNAPSHOT and said:
+        elif done.status == 1 or words[0] == "facl-snapshot" and said:
             self.text.add(title, said)
             self.text.has_something = self.text.has_something or done.status == 1
         return done.status
 
     def take_snapshot(self) -> bool:
-        self.ask(b"facl snapshot", SNAPSHOT, "--quiet", *self.given.options, os.fsdecode(self.place), *self.given.folders)
+        self.ask(b"facl snapshot", "facl-snapshot", "--quiet", *self.given.options, self.place, *self.given.folders)
         is_there = os.path.isdir(self.place)
         if not is_there:
             self.text.reasons.insert(0, b"no snapshot")
@@ -48,7 +46,7 @@ class Asking:
     def ask_all(self) -> bool:
         """Asks what there is to look at; whether the snapshot can be the one that the next run compares with: what changed
         could be said, or, of the first one, its findings."""
-        new, given, old = os.fsdecode(self.place), self.given, self.names[-1] if self.names else b""
+        new, given, old = self.place, self.given, self.names[-1] if self.names else b""
         if old:
             before = os.fsdecode(os.path.join(self.folder.name, old))
             compared = self.ask(b"changes since %s (facl diff)" % old, "facl-diff", *given.judge, before, new)
@@ -67,10 +65,7 @@ class DailyRun:
     """A run, and how it ends."""
 
     def __init__(self, command: Command, address: str) -> None:
-        self.command = command
-        self.address = address
-        self.children = Children()
-        self.text = Text([])
+        self.command, self.address, self.children, self.text = command, address, Children(), Text([])
         self.folder: Optional[DailyFolder] = None
 
     def work(self, given: Words) -> int:
@@ -84,20 +79,29 @@ class DailyRun:
         folder.begin()
         asking = Asking(given, folder, self.children, self.text)
         if has_remains:
-            self.text.note(KILLED, folder.name + b": an earlier run was killed, and what it left is removed" + (
+            self.text.note(b"an earlier run was killed", folder.name + b": an earlier run was killed, and what it left is removed" + (
                 b"; what changed since %s is said now" % asking.names[-1] if asking.names else b""))
         is_usable = asking.take_snapshot() and asking.ask_all()
         is_given = not self.text.parts or self.text.give(self.command, self.children, self.address)
         self.children.ignore_signals()
         if is_usable and is_given:
-            self.keep(folder, asking, given.keep)
+            folder.keep(asking.new_name, asking.names)
+            for name in folder.keep_last(given.keep):
+                self.command.say(folder.name + b"/" + name + b": has files that are no snapshot's, so it stays")
         return UNUSABLE if self.text.has_fault or not is_given else int(self.text.has_something)
 
-    def keep(self, folder: DailyFolder, asking: Asking, count: int) -> None:
-        """Keeps the new snapshot, whose text was given, and removes older ones."""
-        folder.keep(asking.new_name, asking.names)
-        for name in folder.keep_last(count):
-            self.command.say(folder.name + b"/" + name + b": has files that are no snapshot's, so it stays")
+    def status_of(self, words: List[str]) -> int:
+        """Does the run, and says why it fails where it does."""
+        try:
+            return self.work(read_words(words))
+        except Interrupted as ended:
+            self.fail(b"ended by " + signal.Signals(ended.number).name.encode())
+            return 128 + ended.number
+        except (Failure, OSError, MemoryError) as error:
+            self.fail(fault_of(error))
+        except Exception as error:  # A fault of the command itself is not silent either.
+            self.fail(b"a fault of facl daily: " + repr(error).encode(errors="backslashreplace"))
+        return UNUSABLE
 
     def fail(self, reason: bytes) -> None:
         """Says why the run ends without its text, by mail too."""
@@ -110,36 +114,22 @@ class DailyRun:
         try:
             self.text.give(self.command, self.children, self.address)
         except (Failure, OSError) as error:
-            fault = error.text if isinstance(error, Failure) else named(error)
-            if fault != reason:
-                self.command.say(fault)
+            if fault_of(error) != reason:
+                self.command.say(fault_of(error))
 
     def clean(self) -> None:
-        """Removes what the run made and did not keep."""
+        """Removes what the run made and did not keep; a command that a signal ended removes what it made first."""
         self.children.ignore_signals()
-        self.children.wait_for_interrupted()
+        for child in self.children.interrupted:
+            child.wait()
         if self.folder is not None:
             self.folder.end()
 
 
-def status_of(run: DailyRun, words: List[str]) -> int:
-    """Does a run, and says why it fails where it does."""
-    status = UNUSABLE
-    try:
-        return run.work(read_words(words))
-    except Failure as failure:
-        reason = failure.text
-    except Interrupted as ended:
-        status = 128 + ended.number
-        reason = b"ended by " + signal.Signals(ended.number).name.encode()
-    except OSError as error:
-        reason = named(error)
-    except MemoryError:
-        reason = b"memory ran out"
-    except Exception as error:  # A fault of the command itself is not silent either.
-        reason = b"a fault of facl daily: " + repr(error).encode(errors="backslashreplace")
-    run.fail(reason)
-    return status
+def fault_of(error: Exception) -> bytes:
+    if isinstance(error, Failure):
+        return error.text
+    return named(error) if isinstance(error, OSError) else b"memory ran out"
 
 
 def body(command: Command, words: List[str]) -> int:
@@ -150,6 +140,6 @@ def body(command: Command, words: List[str]) -> int:
     os.umask(0o077)
     run = DailyRun(command, address_of(words))
     try:
-        return status_of(run, words)
+        return run.status_of(words)
     finally:
         run.clean()

@@ -22,11 +22,12 @@ import re
 import secrets
 import shutil
 import stat
+from itertools import count
 from typing import List, Optional
 
 from ..base import new_file, own_files, trusted
 from ..base.attempts import failing, held
-from ..base.folders import FILES
+from ..base.folders import PART, remove_snapshot
 from ..base.messages import Failure
 from ..base.new_file import DIRECTORY, create, give_mode, is_there, make_directory
 from ..base.trusted import PRIVATE
@@ -35,7 +36,6 @@ LOCK, MADE = b"lock.of-facl-daily", b"made.by-facl-daily"
 NEW, NEXT, BEGUN = b"new", b"made", b"begun"  # In the work folder.
 WORK = re.compile(rb"\.work\.[0-9A-Za-z]{10}")
 NAME = re.compile(rb"[0-9]{4,}-[0-9]{2}-[0-9]{2}(?:\.([0-9]{1,9}))?")
-PART = re.compile(rb"[0-9]{3,7}")  # The folder of a part of a snapshot (--split).
 READ = os.O_RDONLY | os.O_NOFOLLOW | os.O_NONBLOCK | os.O_CLOEXEC
 LIST_LIMIT = 1 << 20  # Bytes of the list.
 
@@ -102,31 +102,28 @@ class DailyFolder:
     def new_name(self, day: bytes, names: List[bytes]) -> bytes:
         """The day, with a number from its second snapshot on."""
         last = NAME.fullmatch(names[-1]) if names and names[-1].partition(b".")[0] == day else None
-        number = 1 if last is None else int(last[1] or 1) + 1
-        while is_there(day if number == 1 else day + b".%d" % number, self.descriptor):
-            number += 1
-        return day if number == 1 else day + b".%d" % number
+        new = (day if number == 1 else day + b".%d" % number for number in count(1 if last is None else int(last[1] or 1) + 1))
+        return next(it for it in new if not is_there(it, self.descriptor))
 
     def remove_remains(self) -> bool:
         """Removes the work folders of runs that were killed; whether there was one."""
-        found = False
-        for name in sorted(it for it in os.listdir(b".") if WORK.fullmatch(it)):
-            look = self.own_folder(name)
-            if look is not None and stat.S_IMODE(look.st_mode) == 0o700:
-                found = True
-                with held(os.open(name, DIRECTORY)) as inside:
-                    self.settle(inside)
-                shutil.rmtree(name)
-        return found
+        looks = {name: self.own_folder(name) for name in sorted(filter(WORK.fullmatch, os.listdir(b".")))}
+        remains = [name for name, look in looks.items() if look is not None and stat.S_IMODE(look.st_mode) == 0o700]
+        for name in remains:
+            with held(os.open(name, DIRECTORY)) as inside:
+                self.settle(inside)
+            shutil.rmtree(name)
+        return remains != []
 
     def settle(self, inside: int) -> None:
         """Puts the next list of a work folder in place where its snapshot has its name already; else drops it, before the
         snapshot goes."""
-        if is_there(NEXT, inside) and not is_there(NEW, inside):
-            os.close(own_files.open_mark(inside, self.name, NEXT))
-            os.rename(NEXT, MADE, src_dir_fd=inside, dst_dir_fd=self.descriptor)
-        elif is_there(NEXT, inside):
-            os.unlink(NEXT, dir_fd=inside)
+        if is_there(NEXT, inside):
+            if is_there(NEW, inside):
+                os.unlink(NEXT, dir_fd=inside)
+            else:
+                os.close(own_files.open_mark(inside, self.name, NEXT))
+                self.put_list(inside)
 
     def begin(self) -> None:
         """Makes the work folder."""
@@ -142,7 +139,7 @@ class DailyFolder:
         self.write_next([*names, name])
         os.rename(NEW, name, src_dir_fd=self.inside, dst_dir_fd=self.descriptor)
         os.fsync(self.descriptor)
-        self.put_list()
+        self.put_list(self.inside)
 
     def write_next(self, names: List[bytes]) -> None:
         """Writes the next list beside the snapshot."""
@@ -150,19 +147,19 @@ class DailyFolder:
         os.rename(BEGUN, NEXT, src_dir_fd=self.inside, dst_dir_fd=self.inside)  # Never a part of it.
         os.fsync(self.inside)
 
-    def put_list(self) -> None:
-        """Makes the next list the list."""
-        os.rename(NEXT, MADE, src_dir_fd=self.inside, dst_dir_fd=self.descriptor)
+    def put_list(self, inside: int) -> None:
+        """Makes the next list of a work folder the list."""
+        os.rename(NEXT, MADE, src_dir_fd=inside, dst_dir_fd=self.descriptor)
         os.fsync(self.descriptor)
 
-    def keep_last(self, count: int) -> List[bytes]:
+    def keep_last(self, most: int) -> List[bytes]:
         """Removes the older snapshots of those that were kept; returns those that stay, since other files are in them."""
         names = self.made()
-        old = names[:-count]
-        left = [it for it in old if not remove_known(it, self.descriptor, has_parts=True)]
+        old = names[:-most]
+        left = [it for it in old if not remove_snapshot(it, self.descriptor)]
         if old:
-            self.write_next(names[-count:])
-            self.put_list()
+            self.write_next(names[-most:])
+            self.put_list(self.inside)
         return left
 
     def end(self) -> None:
@@ -171,22 +168,6 @@ class DailyFolder:
             self.settle(self.inside)
             shutil.rmtree(self.work)
             self.work = b""
-
-
-def remove_known(name: bytes, above: int, has_parts: bool) -> bool:
-    """Removes the known files in the folder of a snapshot, the parts where it may have some, and the folder where nothing else is in
-    it; whether the folder is gone."""
-    with held(os.open(name, DIRECTORY, dir_fd=above)) as folder:
-        for file in FILES:
-            with contextlib.suppress(FileNotFoundError, IsADirectoryError):
-                os.unlink(file, dir_fd=folder)
-        for part in sorted(map(os.fsencode, os.listdir(folder))) if has_parts else ():
-            if PART.fullmatch(part) and stat.S_ISDIR(os.stat(part, dir_fd=folder, follow_symlinks=False).st_mode):
-                remove_known(part, folder, has_parts=False)
-    with contextlib.suppress(OSError):
-        os.rmdir(name, dir_fd=above)
-        return True
-    return False
 
 
 def sync_all(folder: int) -> None:

@@ -12,16 +12,13 @@ from ..base.names import shown
 from .children import Children, environment
 
 SUBJECT_LIMIT = 150  # Bytes.
-SOMETHING = b"something to look at"
-JUDGED = b"judged by the check of acl(5) (--acl5)\n"
-NO_SENDMAIL = b"--mail: there is no sendmail: install a mailer, or leave --mail out, so that cron sends what is printed"
 
 
 def find_sendmail() -> str:
     """The name of sendmail, also where /usr/sbin is not on the path."""
     found = shutil.which("sendmail", path=environment()["PATH"] + ":/usr/sbin:/usr/lib")
     if found is None:
-        raise Failure(NO_SENDMAIL)
+        raise Failure(b"--mail: there is no sendmail: install a mailer, or leave --mail out, so that cron sends what is printed")
     return found
 
 
@@ -35,7 +32,7 @@ class Text:
     """The text of a run: its parts, and the reasons that the subject of a mail has."""
 
     def __init__(self, folders: List[str], is_acl5: bool = False) -> None:
-        self.judge = JUDGED * is_acl5
+        self.judge = b"judged by the check of acl(5) (--acl5)\n" * is_acl5
         self.host = os.fsencode(os.uname().nodename)
         self.day = datetime.date.today().isoformat().encode()
         self.folders = b" ".join(map(os.fsencode, folders))
@@ -61,15 +58,13 @@ class Text:
         self.has_fault = True
 
     def body(self) -> bytes:
-        head = b"facl on %s, %s" % (self.host, self.day) + (b": " + self.folders if self.folders else b"")
-        return shown(head) + b"\n" + self.judge + b"".join(self.parts)
+        head = b"facl on %s, %s" % (self.host, self.day)
+        return shown(head + b": " * bool(self.folders) + self.folders) + b"\n" + self.judge + b"".join(self.parts)
 
     def mail(self, address: str) -> bytes:
-        subject = b"facl on %s: %s" % (self.host, b"; ".join(self.reasons) or SOMETHING)
-        return b"".join([
-            b"To: %s\nSubject: %s\n" % (address.encode(), in_subject(subject)),
-            b"MIME-Version: 1.0\nContent-Type: text/plain; charset=UTF-8\nContent-Transfer-Encoding: 8bit\n\n", self.body(),
-        ])
+        subject = in_subject(b"facl on %s: %s" % (self.host, b"; ".join(self.reasons) or b"something to look at"))
+        return (b"To: %s\nSubject: %s\nMIME-Version: 1.0\nContent-Type: text/plain; charset=UTF-8\n"
+                b"Content-Transfer-Encoding: 8bit\n\n%s" % (address.encode(), subject, self.body()))
 
     def give(self, command: Command, children: Children, address: str) -> bool:
         """Prints or mails it; whether that was done."""

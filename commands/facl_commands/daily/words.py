@@ -27,8 +27,7 @@ prints nothing, so that cron sends no mail. Run it as root, once a day.
   --mail ADDRESS    sends the text by sendmail in place of printing it, and a mail also where the command fails or is ended
                     by a signal
   --split COUNT     for a tree above the limit of one snapshot, 1,048,576 files: DIR/YYYY-MM-DD has parts of at most COUNT files,
-                    by facl-snapshot --split. All that is said is of the whole tree. It may come and go from day to day, and
-                    COUNT may differ
+                    by facl-snapshot --split. It may come and go from day to day
   --snapshot OPTIONS
                     options of facl-snapshot, with blanks between them: --snapshot '--exclude *.tmp --cross-file-systems'.
                     A file in them has its name from the root on
@@ -36,13 +35,9 @@ prints nothing, so that cron sends no mail. Run it as root, once a day.
   --help            prints this
   --version         prints the version of facl
 
-DIR has to belong to the caller. DIR, the directories above it and symbolic links on the way have to belong to root or to
-the caller, and nobody else may be able to write there, but for directories above it that are sticky, as /tmp is. Two runs
-at once do not go on side by side: the later one ends with status 2.
-
-A snapshot is kept, and the next one compared with it, only once what changed was printed or mailed. Where that fails or is
-interrupted the snapshot goes, and the next run compares with the same one again. What a run leaves that SIGKILL or a power
-failure ended, the next run removes; it says that.
+DIR has to belong to the caller, and nobody else may be able to write there or above it, but for directories above it that are
+sticky. Of two runs at once the later one ends with status 2. A snapshot is kept, and the next one compared with it, only once
+what changed was printed or mailed. What a run leaves that SIGKILL or a power failure ended, the next run removes, and says so.
 
 The exit status is 0 where there is nothing to look at, 1 where there is, and 2 where the snapshot is not made, or
 something could not be asked or sent; that is said too. A signal gives 128 and its number.

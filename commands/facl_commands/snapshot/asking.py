@@ -8,6 +8,7 @@ import grp
 import os
 import pwd
 import time
+from contextlib import suppress
 from functools import partial
 from typing import Any, Callable, Iterable, List, NamedTuple, Optional, Sequence, Tuple, Union
 
@@ -17,14 +18,13 @@ from ..base.workers import Helper
 
 MOST_SECONDS = 300.0  # For all look-ups.
 MANY = 500  # Look-ups of one process.
-COLONS = {b"passwd": 6, b"group": 3}
+COLONS = {2: 6, 1: 3}  # In a row of passwd, which has two ids, and of group.
 Key = Union[int, bytes]  # An id or a name.
 
 
 class Account(NamedTuple):
     """A user or a group."""
 
-    kind: bytes  # passwd or group.
     start: bytes  # Its row, without the members of a group.
     name: bytes
     ids: Tuple[int, ...]  # Its own, and the first group of a user.
@@ -37,23 +37,32 @@ class Account(NamedTuple):
         """Whether the program takes the row. Entries of NIS, as +user, have no ids."""
         row = self.row()
         return (self.name != b"" and self.name[:1] not in (b"+", b"-") and max(self.ids) <= LAST_ID
-                and b"\n" not in row and row.count(b":") == COLONS[self.kind])
+                and b"\n" not in row and row.count(b":") == COLONS[len(self.ids)])
 
 
-def account_of(kind: bytes, fields: Sequence[Optional[str]], numbers: Tuple[int, ...], members: Iterable[str] = ()) -> Account:
+def account_of(fields: Sequence[Optional[str]], numbers: Tuple[int, ...], members: Iterable[str] = ()) -> Account:
     """An account of the texts of its row but the numbers, which follow the first two. Python makes -1 of the last id."""
     texts = [os.fsencode(it or "") for it in fields]
     ids = tuple(it & 0xFFFFFFFF for it in numbers)
-    return Account(kind, b":".join([*texts[:2], *(b"%d" % it for it in ids), *texts[2:]]), texts[0], ids, tuple(map(os.fsencode, members)))
+    start = b":".join([*texts[:2], *(b"%d" % it for it in ids), *texts[2:]])
+    return Account(start, texts[0], ids, tuple(map(os.fsencode, members)))
 
 
 def user_of(it: pwd.struct_passwd) -> Account:
     about = (it.pw_gecos or "").replace(":", " ").replace("\n", " ")
-    return account_of(b"passwd", (it.pw_name, it.pw_passwd, about, it.pw_dir, it.pw_shell), (it.pw_uid, it.pw_gid))
+    return account_of((it.pw_name, it.pw_passwd, about, it.pw_dir, it.pw_shell), (it.pw_uid, it.pw_gid))
 
 
 def group_of(it: grp.struct_group) -> Account:
-    return account_of(b"group", (it.gr_name, it.gr_passwd, ""), (it.gr_gid,), it.gr_mem)
+    return account_of((it.gr_name, it.gr_passwd, ""), (it.gr_gid,), it.gr_mem)
+
+
+def all_users() -> List[Account]:
+    return [*map(user_of, pwd.getpwall())]
+
+
+def all_groups() -> List[Account]:
+    return [*map(group_of, grp.getgrall())]
 
 
 def user_by(key: Key) -> Account:
@@ -69,22 +78,12 @@ def groups_of(user: Account) -> Tuple[bytes, List[int]]:
     return user.name, os.getgrouplist(os.fsdecode(user.name), user.ids[1])
 
 
-def all_users() -> List[Account]:
-    return [*map(user_of, pwd.getpwall())]
-
-
-def all_groups() -> List[Account]:
-    return [*map(group_of, grp.getgrall())]
-
-
 def found(look_up: Callable[[Any], Tuple[Any, ...]], keys: Iterable[Any]) -> List[Tuple[Any, ...]]:
     """What there is of some keys."""
     rows = []
     for key in keys:
-        try:
+        with suppress(KeyError, ValueError, OverflowError):  # There is none, or none can have this key.
             rows.append(tuple(look_up(key)))
-        except (KeyError, ValueError, OverflowError):  # There is none, or none can have this key.
-            pass
     return rows
 
 
@@ -115,12 +114,13 @@ class Service:
 
     def ask(self, look_up: Callable[[Any], Tuple[Any, ...]], keys: Sequence[Any]) -> List[Tuple[Any, ...]]:
         """What there is of some keys."""
-        if self.until is None and keys:
-            self.until = time.monotonic() + MOST_SECONDS
+        if keys:
+            self.until = self.until or time.monotonic() + MOST_SECONDS
+        until = self.until or 0
         rows: List[Tuple[Any, ...]] = []
         for start in range(0, len(keys), MANY):
             some = keys[start : start + MANY]
-            answer = in_time(partial(found, look_up, some), self.until or 0) if time.monotonic() < (self.until or 0) else None
+            answer = in_time(partial(found, look_up, some), until) if time.monotonic() < until else None
             self.unasked += len(some) if answer is None else 0
             rows += answer or []
         return rows

@@ -14,8 +14,7 @@ from ..base import linux, live
 from ..base.attempts import failing, held
 from ..base.messages import NOT_SAID, Command, Failure
 from ..base.names import number_of
-from .runs import EXCLUDED, LINK, OTHER_SYSTEM
-from .taking import Given, Program, Taking
+from .taking import Program, Taking
 from .target import NewSnapshot, place_of
 from .words import HELP, read_words
 
@@ -29,7 +28,7 @@ def program_of(given: Optional[str]) -> Optional[Program]:
     found = shutil.which(wanted or "facl")
     if wanted and found is None:
         raise Failure(os.fsencode(wanted) + b": no such program")
-    return Program(os.fsencode(wanted or "facl"), os.path.abspath(found)) if found else None
+    return (os.fsencode(wanted or "facl"), os.path.abspath(found)) if found else None
 
 
 def group_of(word: str) -> int:
@@ -62,18 +61,6 @@ def check_limits() -> None:
         resource.setrlimit(resource.RLIMIT_NOFILE, (OPEN_FILES, hard))
 
 
-def tell(command: Command, taking: Taking, given: bytes) -> bool:
-    """Says what is made; whether that could be written, whatever became of the messages before."""
-    command.fault = None
-    left_out = taking.left_out
-    command.tell(b"recorded " + given + b": " + taking.report() + b"; symbolic links left out: %d" % left_out.numbers[LINK])
-    for why, text in ((OTHER_SYSTEM, b"as other file systems"), (EXCLUDED, b"by --exclude")):
-        if left_out.numbers[why]:
-            command.tell(given + b": left out " + text + b": %d, first: " % left_out.numbers[why] + left_out.first[why])
-    command.flush()
-    return command.fault is None
-
-
 def body(command: Command, words: List[str]) -> int:
     if words[:1] in (["--help"], ["--version"]):
         command.write((HELP if words[0] == "--help" else f"facl-snapshot {VERSION}\n").encode())
@@ -85,13 +72,12 @@ def body(command: Command, words: List[str]) -> int:
     program = program_of(read.program)
     readers = None if read.readers is None else group_of(read.readers)
     place = place_of(read.target)
-    given = Given(read, program, [*map(folder_of, read.folders)])
+    taking = Taking(command, read, program, [*map(folder_of, read.folders)])
     with NewSnapshot(place, command.say) as new:
-        taking = Taking(command, given, new)
-        taking.take()
+        taking.take(new)
         new.put_in_place(readers)
     status = 1 if taking.lacks else 0
-    if not read.is_quiet and not tell(command, taking, read.target):
+    if not read.is_quiet and not taking.tell():
         command.say(read.target + b": was made, but the line that says so could not be written")
         status = status or NOT_SAID
     command.fault = None  # Of messages.

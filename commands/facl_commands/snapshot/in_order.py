@@ -4,24 +4,15 @@ from __future__ import annotations
 import os
 import select
 from functools import partial
-from typing import IO, Generator, Iterator, List, Optional
+from typing import IO, Generator, List, Optional, Union
 
 from ..base import workers
 from ..base.live import PLACES
 from ..base.workers import Helper, receive, send
-from .runs import LeftOut, Run
-from .rests import START_OF_ALL, Rest
-from .walking import MANY, Walked, Walker
+from .runs import LeftOut
+from .walking import MANY, START_OF_ALL, Rest, Walked, Walker
 
-MOST_WAITING = 32  # Errands whose finds wait for what is before them.
-
-
-class Errand:
-    """A part of the walk: rests that follow each other, which no process has yet unless it is given; and what came of it."""
-
-    def __init__(self, rests: List[Rest], is_given: bool = False) -> None:
-        self.rests, self.is_given = rests, is_given
-        self.walked: Optional[Walked] = None
+MOST_WAITING = 32  # Finds that wait for what is before them.
 
 
 def cut_size(rest: Rest, processes: int) -> int:
@@ -31,134 +22,102 @@ def cut_size(rest: Rest, processes: int) -> int:
     return min(rest.number, max(least, min(most, rest.number // (2 * processes))))
 
 
-class Line:
-    """What is walked through, in the order of paths: what was found and waits for what is before it, what processes are at, and what
-    is still to be looked at."""
-
-    def __init__(self, processes: int) -> None:
-        self.errands, self.processes, self.waiting = [Errand([START_OF_ALL])], processes, 0
-
-    def next(self) -> Optional[Errand]:
-        """The next errand; None where there is none, or where too much waits for what is before it."""
-        place = next((place for place, it in enumerate(self.errands) if not it.is_given), None)
-        if place is None or place and self.waiting >= MOST_WAITING:
-            return None
-        rests: List[Rest] = []
-        while place < len(self.errands) and not self.errands[place].is_given and sum(
-                it.number * it.weight for it in rests) < MANY // 4:
-            first, *others = self.errands.pop(place).rests
-            cut, left = first.cut(cut_size(first, self.processes))
-            rests.append(cut)
-            others = [left] * (left.number > 0) + others
-            if others:
-                self.errands.insert(place, Errand(others))
-            if left.number:
-                break
-        self.errands.insert(place, Errand(rests, True))
-        return self.errands[place]
-
-    def done(self, errand: Errand, walked: Walked) -> None:
-        """Takes what came of an errand."""
-        errand.walked = walked
-        self.waiting += 1
-        place = self.errands.index(errand) + 1
-        self.errands[place:place] = [Errand([rest]) for rest in walked.rests if rest.number]
-
-    def ready(self) -> Iterator[Walked]:
-        """What was found and has nothing before it."""
-        while self.errands:
-            walked = self.errands[0].walked
-            if walked is None:
-                return
-            del self.errands[0]
-            self.waiting -= 1
-            yield walked
-
-
 class Follower(Helper):
-    """A process that walks errands."""
+    """A process that walks what it is given."""
 
     def __init__(self, walker: Walker) -> None:
         self.walker = walker
-        self.errand: Optional[Errand] = None
+        self.rest: Optional[Rest] = None  # What it is at.
         come, go = os.pipe()
-        self.come, self.errands = open(come, "rb"), open(go, "wb")
+        self.come, self.rests = open(come, "rb"), open(go, "wb")
         super().__init__(PLACES.begin_in_own_process, keeps_signals=False)
         self.come.close()
 
     def answer(self, file: IO[bytes]) -> None:
-        """Walks until there are no more errands."""
+        """Walks until there is nothing more."""
         self.work()
-        for rests in iter(partial(receive, self.come), None):
-            walked = self.walker.walk([Rest(*it) for it in rests])  # type: ignore[attr-defined]
-            send(file, (tuple(walked.run), walked.left_out.row(), [tuple(it) for it in walked.rests]))
+        for rest in iter(partial(receive, self.come), None):
+            rows, left_out, rests = self.walker.walk(Rest(*rest))  # type: ignore[misc]
+            send(file, (rows, (left_out.numbers, left_out.first, left_out.mounts), [tuple(it) for it in rests]))
 
-    def give(self, errand: Errand) -> None:
-        self.errand = errand
+    def give(self, rest: Rest) -> None:
+        self.rest = rest
         try:
-            send(self.errands, [tuple(it) for it in errand.rests])
+            send(self.rests, tuple(rest))
         except BrokenPipeError:
             pass  # It ended, which `take` finds.
 
     def take(self) -> Optional[Walked]:
-        """What came of its errand; None where the process ended before."""
+        """What it found; None where the process ended before."""
         found = self.result()
         if not isinstance(found, tuple):
             return None
-        run, row, rests = found
-        left_out = LeftOut()
-        left_out.join(row)
-        return Walked(Run(*run), left_out, [Rest(*it) for it in rests])
+        rows, left_out, rests = found
+        return Walked(rows, LeftOut(*left_out), [Rest(*it) for it in rests])
 
     def end(self) -> None:
         super().end()
         try:
-            self.errands.close()
+            self.rests.close()
         except BrokenPipeError:
             pass
+
+
+# What was found and waits for what is before it, who walks, and what is still to be looked at, in the order of paths.
+Line = List[Union[Walked, Follower, Rest]]
+
+
+def next_rest(line: Line, place: int, processes: int) -> Rest:
+    """Takes the first names out of a rest of the line."""
+    rest = line.pop(place)
+    assert isinstance(rest, Rest)
+    first, left = rest.cut(cut_size(rest, processes))
+    if left.number:
+        line.insert(place, left)
+    return first
 
 
 def found_by(walker: Walker) -> Generator[Walked, None, None]:
     """What is found, in the order of paths: of a large tree as root by several processes, and else by this one alone."""
     processes = min(workers.MOST, os.cpu_count() or 1) if os.geteuid() == 0 else 1
-    line, number = Line(processes), 0
+    line: Line = [START_OF_ALL]
+    number, can_share = 0, processes > 1
     followers: List[Follower] = []
-    can_share = processes > 1
     try:
-        while line.errands:
+        while line:
             if can_share and number > workers.MANY:
                 can_share = False
-                for _ in range(processes):
-                    followers.append(Follower(walker))
+                followers.extend(Follower(walker) for _ in range(processes))
             if followers:
                 share(line, followers)
             else:
-                errand = line.next()
-                assert errand is not None
-                line.done(errand, walker.walk(errand.rests))
-            for walked in line.ready():
-                number += len(walked.run.bits) + walked.left_out.total()
-                yield walked
+                walked = walker.walk(next_rest(line, 0, processes))
+                line[:0] = [walked, *walked.rests]
+            while line and isinstance(line[0], Walked):
+                number += len(line[0].rows) + line[0].left_out.total()
+                yield line[0]
+                del line[0]
     finally:
         for follower in followers:
             follower.end()
 
 
 def share(line: Line, followers: List[Follower]) -> None:
-    """Gives errands to the processes that have none, and takes what comes first."""
+    """Gives rests to the processes that have none, and takes what comes first."""
     for follower in followers:
-        errand = line.next() if follower.errand is None else None
-        if errand is not None:
-            follower.give(errand)
-    busy = {it.reader.fileno(): it for it in followers if it.errand is not None}
+        place = next((place for place, it in enumerate(line) if isinstance(it, Rest)), None)
+        waiting = sum(isinstance(it, Walked) for it in line)
+        if follower.rest is None and place is not None and (place == 0 or waiting < MOST_WAITING):
+            follower.give(next_rest(line, place, len(followers)))
+            line.insert(place, follower)
+    busy = {it.reader.fileno(): it for it in followers if it.rest is not None}
     for descriptor in select.select([*busy], [], [])[0]:
         follower = busy[descriptor]
-        errand, walked = follower.errand, follower.take()
-        follower.errand = None
-        assert errand is not None
+        place, walked = line.index(follower), follower.take()
         if walked is not None:
-            line.done(errand, walked)
-        else:  # It ended: another one has its errand.
+            line[place : place + 1] = [walked, *walked.rests]
+            follower.rest = None
+        elif follower.rest is not None:  # It ended: another one has its rest.
+            line[place] = follower.rest
             followers.remove(follower)
             follower.end()
-            errand.is_given = False

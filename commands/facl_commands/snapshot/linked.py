@@ -3,9 +3,9 @@ from __future__ import annotations
 
 from array import array
 from itertools import compress
-from typing import IO, Dict, Iterator, List, NamedTuple, Set, Tuple
+from typing import IO, Dict, Iterator, List, NamedTuple, Tuple
 
-from .runs import SEVERAL, Run
+from .runs import SEVERAL, Row
 
 MARKS = 16  # For each file, which has one of all these marks; several files can have the same one.
 CHUNK = 1 << 20
@@ -24,31 +24,29 @@ class Linker:
     """Sees the files of a snapshot as they are written, and in the end reads their names."""
 
     def __init__(self) -> None:
-        self.keys = array("Q")
+        self.keys = array("q")
         self.several = bytearray()  # Whether it is a plain file that has other names somewhere.
 
-    def add(self, run: Run) -> None:
-        self.keys.frombytes(run.keys)
-        self.several.extend(bits & SEVERAL > 0 for bits in run.bits)
+    def add(self, rows: List[Row]) -> None:
+        self.keys.extend([key for _, _, _, key, _, _ in rows])
+        self.several.extend([bits & SEVERAL > 0 for _, _, _, _, bits, _ in rows])
 
-    def repeated(self) -> Set[int]:
-        """Keys whose mark another file has too: of all that have several names, and of some others."""
-        number, found = MARKS * len(self.keys), set()
+    def wanted(self) -> bytearray:
+        """Of each file whether it may have several names: all that have some, and a few others."""
+        number, repeated = MARKS * len(self.keys), set()
         marks = bytearray(number)
         for key in self.keys:
             if marks[key % number]:
-                found.add(key)
+                repeated.add(key)
             marks[key % number] = 1
-        return found
+        return bytearray(several or key in repeated for several, key in zip(self.several, self.keys))
 
     def names(self, inodes: IO[bytes]) -> LinkedNames:
         """Reads the names in the file inodes of the snapshot that may be of one file."""
-        repeated = self.repeated()
-        wanted = bytearray(several or key in repeated for several, key in zip(self.several, self.keys))
+        wanted = self.wanted()
         found: Dict[Tuple[int, int], List[bytes]] = {}
         alone: List[Tuple[int, int]] = []
-        records = compress(records_in(inodes), wanted) if any(wanted) else iter(())
-        for record, several in zip(records, compress(self.several, wanted)):
+        for record, several in zip(compress(records_in(inodes), wanted), compress(self.several, wanted)):
             device, inode, _, name = record.split(b" ", 3)
             file = int(device), int(inode)
             found.setdefault(file, []).append(name)
@@ -60,13 +58,11 @@ class Linker:
 
 
 def records_in(inodes: IO[bytes]) -> Iterator[bytes]:
-    """The records after the first one."""
+    """The records after the first one, which is of the boot."""
     inodes.seek(0)
-    rest, is_first = b"", True
-    while True:
+    rest = inodes.read(CHUNK).partition(b"\0")[2]
+    while rest:
+        *records, rest = rest.split(b"\0")
+        yield from records
         chunk = inodes.read(CHUNK)
-        if not chunk:
-            return
-        *records, rest = (rest + chunk).split(b"\0")
-        yield from records[is_first:]
-        is_first = is_first and not records
+        rest = rest + chunk if chunk else b""

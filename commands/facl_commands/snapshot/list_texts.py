@@ -6,34 +6,28 @@ judges by it, and a file with one of the second kind is not recorded.
 """
 from __future__ import annotations
 
-import re
 import stat
-import struct
 from functools import partial
 from typing import Callable, Dict, FrozenSet, NamedTuple, Optional, Tuple, TypeVar
 
 from ..base import acl_bytes, linux
 from ..base.acl_bytes import ENTRY, GROUP, GROUP_CLASS, GROUP_OBJ, HEAD, MASK, NAMED, NO_ID, OTHER, USER, USER_OBJ
 from ..base.live import MINIMAL
+from ..base.messages import Failure
 
 MOST_ENTRIES = 4096  # Of a list, which the program takes.
 MOST_KEPT = 1 << 19  # Bytes of the texts that are kept.
 PERMISSIONS = [b"".join(letter if bits >> place & 1 else b"-" for letter, place in ((b"r", 2), (b"w", 1), (b"x", 0)))
                for bits in range(8)]
 TAGS = {USER_OBJ: b"user:", USER: b"user:", GROUP_OBJ: b"group:", GROUP: b"group:", MASK: b"mask:", OTHER: b"other:"}
-ESCAPES = {b"\\": b"\\\\", b"\n": b"\\012", b"\r": b"\\015"}
 FLAGS = ((stat.S_ISUID, b"s"), (stat.S_ISGID, b"s"), (stat.S_ISVTX, b"t"))
 # The bytes of the owner, group and mode of a file, as a status has them, and those of its lists.
 Label = Tuple[bytes, Optional[bytes], Optional[bytes]]
 Whom = Tuple[int, int, FrozenSet[int], FrozenSet[int]]  # Owner and group of a file, and whom its lists name.
 
 
-class NoList(Exception):
+class NoList(Failure):
     """A file has bytes that cannot be recorded as its list; the text says why."""
-
-    def __init__(self, text: bytes) -> None:
-        super().__init__(text)
-        self.text = text
 
 
 class ListText(NamedTuple):
@@ -77,26 +71,22 @@ class Known(Dict[Key, Text]):
 
 def shown_name(name: bytes) -> bytes:
     """A name as getfacl prints it."""
-    if b"\\" not in name and b"\n" not in name and b"\r" not in name:
-        return name
-    return re.sub(rb"[\\\n\r]", lambda found: ESCAPES[found[0]], name)
+    return name.replace(b"\\", b"\\\\").replace(b"\n", b"\\012").replace(b"\r", b"\\015")
 
 
 def entries_of(data: bytes) -> Tuple[acl_bytes.Entries, bool]:
     """The entries of a list as the kernel judges by them, and whether it has several of one user or group: of a user the
     first one counts, and each one of a group grants what it has."""
+    number_of_entries, rest = divmod(len(data) - len(HEAD), ENTRY.size)
+    if data[:4] != HEAD or rest:
+        raise NoList(b"has an ACL that is not valid")
     found: acl_bytes.Entries = {}
-    try:
-        if data[:4] != HEAD:
-            raise NoList(b"has an ACL that is not valid")
-        for tag, bits, number in ENTRY.iter_unpack(data[4:]):
-            key = tag, number if tag in NAMED else NO_ID
-            found[key] = found.get(key, 0) | bits if tag == GROUP else found.get(key, bits)
-    except struct.error as error:
-        raise NoList(b"has an ACL that is not valid") from error
+    for tag, bits, number in ENTRY.iter_unpack(data[4:]):
+        key = tag, number if tag in NAMED else NO_ID
+        found[key] = found.get(key, 0) | bits if tag == GROUP else found.get(key, bits)
     if len(found) > MOST_ENTRIES:
         raise NoList(b"has an ACL of more than %d entries, which facl does not take" % MOST_ENTRIES)
-    return found, len(found) != (len(data) - len(HEAD)) // ENTRY.size
+    return found, len(found) != number_of_entries
 
 
 def text_of(prefix: bytes, data: bytes) -> ListText:

@@ -9,7 +9,7 @@ from ..base import linux, live
 from ..base.live import NotFound
 from . import scope as scopes
 from .marking import KnownMounts
-from .runs import EXCLUDED, LINK, LONG, LeftOut
+from .runs import EXCLUDED, LINK, LONG, OTHER_SYSTEM, LeftOut
 from .scope import Scope
 
 EXCHANGED = b"was exchanged for another file, or removed, meanwhile"
@@ -72,7 +72,7 @@ class LongNames:
         if stat.S_ISLNK(status[0]):
             self.left_out.add(LINK, self.path)
         elif self.scope.crosses and self.mounts.of(mount, descriptor).is_of_kernel:
-            self.left_out.add_mount(self.path + b"/")
+            self.left_out.add(OTHER_SYSTEM, self.path + b"/")
         else:
             self.left_out.add(LONG, self.path[:START])
             if stat.S_ISDIR(status[0]) and (self.scope.crosses or status[4] == device):

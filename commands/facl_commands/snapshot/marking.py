@@ -7,11 +7,11 @@ from __future__ import annotations
 
 import os
 import stat
+from functools import lru_cache
 from typing import Dict, List, NamedTuple, Optional, Tuple
 
 from ..base import beside
 from ..base.linux import OF_KERNEL, TMPFS, UNKNOWN, Mount, file_system_of
-from .list_texts import shown_name
 from .runs import BITS, Sums
 
 # Lists that are not those of acl(5), by the extended attributes that have them; TrueNAS has the second one.
@@ -54,19 +54,19 @@ class KnownMounts(Dict[Mount, KnownMount]):
         return self[mount]
 
 
-def marked(name: bytes, mode: int, attributes: int, known: KnownMount, above: bytes) -> Tuple[bytes, bytes, int]:
+@lru_cache
+def marked(file_type: int, attributes: int, known: KnownMount, above: bytes) -> Tuple[bytes, List[bytes], int]:
     """What counts beside lists of a file with these attributes, where the directory above is mounted by the word `above`: how it
-    is mounted, its lines of the file marks, and its bits. A device, a FIFO and a socket can be written on a read-only file system
-    too."""
+    is mounted, the kinds of its lines of the file marks, and its bits. A device, a FIFO and a socket can be written on a read-only
+    file system too."""
     word, bits = known.word, known.bits
-    if bits and not stat.S_ISREG(mode) and not stat.S_ISDIR(mode):
+    if bits and file_type not in (stat.S_IFREG, stat.S_IFDIR):
         word, bits = beside.PLAIN, 0
     kinds = [kind for bit, kind in beside.ATTRIBUTES if attributes & bit]  # UNKNOWN is none of these bits.
     bits |= sum(BITS[kind] for kind in kinds)
     if attributes == UNKNOWN and not known.has_no_attributes:
         bits |= BITS[beside.ATTRIBUTES_UNKNOWN]
-    lines = [*[word] * (word != above), *kinds]
-    return word, b"".join(kind + b" " + shown_name(name) + b"\n" for kind in lines), bits
+    return word, [*[word] * (word != above), *kinds], bits
 
 
 def numbers_of(sums: Sums) -> bytes:

@@ -100,11 +100,10 @@ class PeopleOfSystem:
 
     def numbers(self) -> bytes:
         """The lines of meta."""
-        found = []
-        for kind, accounts in (("users", self.users), ("groups", self.groups)):
-            found += [f"{kind} {len(accounts.all)}", f"{kind}-asked-for {accounts.found}"]
-        found += [f"users-left-out {len(self.users.odd)}", f"groups-left-out {len(self.groups.odd)}"]
-        return "".join(it + "\n" for it in found).encode()
+        kinds = ((b"users", self.users), (b"groups", self.groups))
+        return b"".join(
+            [b"%s %d\n%s-asked-for %d\n" % (kind, len(accounts.all), kind, accounts.found) for kind, accounts in kinds]
+            + [b"%s-left-out %d\n" % (kind, len(accounts.odd)) for kind, accounts in kinds])
 
     def said(self) -> bytes:
         """In the last line."""

@@ -34,8 +34,7 @@ class Scope:
 
     def leaves_out(self, path: bytes) -> bool:
         """Whether a glob matches: the whole name where the glob has a slash, else the last part."""
-        last = os.path.basename(path) or path
-        return any(linux.matches(glob, path if b"/" in glob else last) for glob in self.globs)
+        return any(linux.matches(glob, path if b"/" in glob else os.path.basename(path) or path) for glob in self.globs)
 
 
 def of_folder(path: bytes) -> bytes:

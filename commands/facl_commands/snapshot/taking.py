@@ -6,7 +6,7 @@ import contextlib
 import os
 import subprocess
 import time
-from typing import Iterator, List, NamedTuple, Optional
+from typing import List, Optional, Tuple
 
 from .. import VERSION
 from ..base.attempts import failing, held
@@ -18,7 +18,7 @@ from .in_order import found_by
 from .list_texts import shown_name
 from .people import PeopleOfSystem, strangers, warned_of, why_incomplete
 from .recording import Recording, record, write_file
-from .runs import EXCLUDED, LINK, LONG, MOST_IDS, UNREAD, LeftOut
+from .runs import EXCLUDED, LINK, LONG, MOST_IDS, OTHER_SYSTEM, UNREAD, LeftOut
 from .scope import Scope
 from .target import NewSnapshot
 from .walking import Walker
@@ -26,132 +26,112 @@ from .words import SnapshotWords
 
 SERVICES = (b": name those of a directory service by --users FILE, or have it list them (enumerate = true of sssd, winbind enum "
             b"users = yes of Samba)")
-
-
-class Program(NamedTuple):
-    """The program that has to load the snapshot."""
-
-    shown: bytes
-    path: str
-
-
-class Given(NamedTuple):
-    """What the words mean on this system."""
-
-    words: SnapshotWords
-    program: Optional[Program]
-    folders: List[bytes]  # From the root, without symbolic links.
+Program = Tuple[bytes, str]  # What has to load the snapshot: its name in messages, and its path.
 
 
 class Taking:
-    """A snapshot, or several parts, as they are made."""
+    """A snapshot, or several parts, as they are made, of folders from the root on, without symbolic links."""
 
-    def __init__(self, command: Command, given: Given, new: NewSnapshot) -> None:
-        self.command, self.given, self.new, self.quiet = command, given, new, given.words.is_quiet
+    def __init__(self, command: Command, words: SnapshotWords, program: Optional[Program], folders: List[bytes]) -> None:
+        self.command, self.words, self.program, self.folders = command, words, program, folders
         self.date = time.strftime("%Y-%m-%dT%H:%M:%SZ", time.gmtime())
         self.left_out = LeftOut()
         self.lacks = False  # Whether something is missing, or the program does not load it.
         self.has_said_why = False
 
-    def take(self) -> None:
-        words = self.given.words
+    def take(self, new: NewSnapshot) -> None:
         self.people = PeopleOfSystem()
-        if words.users is not None:
-            self.people.add_named(words.users)
-        look = os.fstat(self.new.work)
-        scope = Scope(self.given.folders, words.globs, words.crosses, (look.st_dev, look.st_ino))
+        if self.words.users is not None:
+            self.people.add_named(self.words.users)
+        look = os.fstat(new.work)
+        scope = Scope(self.folders, self.words.globs, self.words.crosses, (look.st_dev, look.st_ino))
         with contextlib.closing(found_by(Walker(scope))) as found:
-            self.parts = record(found, self.new.made, words.most, self.left_out)
-        for part, folder in self.folders():
-            self.people.complete(part.sums)
-            self.write_people(folder)
-            self.warn_of_all(part)
-            self.check_load(folder)
-        for part, folder in self.folders():
-            self.write_people(folder)
-            write_file(folder, b"meta", self.meta_of(part))
-        self.lacks |= self.left_out.numbers[UNREAD] + self.left_out.numbers[LONG] > 0
-        self.warn_of_unasked()
-
-    def folders(self) -> Iterator["tuple[Recording, int]"]:
-        """The parts with their folders, open."""
+            self.parts = record(found, new.made, self.words.most, self.left_out)
         for part in self.parts:
-            with held(os.open(part.name or b".", DIRECTORY, dir_fd=self.new.made)) as folder:
-                yield part, folder
-
-    def write_people(self, folder: int) -> None:
-        """Writes passwd and group, also once more."""
-        for name, accounts in ((b"passwd", self.people.users), (b"group", self.people.groups)):
-            with contextlib.suppress(FileNotFoundError):
-                os.unlink(name, dir_fd=folder)
-            write_file(folder, name, accounts.text())
+            self.people.complete(part.sums)
+        for part in self.parts:
+            with held(os.open(part.name or b".", DIRECTORY, dir_fd=new.made)) as folder:
+                write_file(folder, b"passwd", self.people.users.text())
+                write_file(folder, b"group", self.people.groups.text())
+                write_file(folder, b"meta", self.meta_of(part))
+                self.warn_of_part(part)
+                self.check_load(folder, new)
+        if self.left_out.numbers[UNREAD] + self.left_out.numbers[LONG]:
+            self.lacks = True
+        if self.people.service.unasked:
+            self.complain(b"asking for users and groups took more than %d seconds, so the snapshot lacks some: names and ids that were "
+                          b"not asked for or not answered: %d" % (asking.MOST_SECONDS, self.people.service.unasked))
 
     # --- what is said
 
-    def warn(self, text: bytes, number: int, first: bytes, is_of_files: bool = False) -> None:
-        """Warns where there is something; of files that could not be read also with --quiet."""
-        if number and (is_of_files or not self.quiet):
-            self.command.say(b"warning: %s: %d, first: %s" % (text, number, first))
+    def complain(self, text: bytes) -> None:
+        """Says what is missing."""
+        self.lacks = True
+        self.command.say(text)
 
-    def warn_of_all(self, part: Recording) -> None:
+    def warn(self, text: bytes, number: int = 1, first: Optional[bytes] = None, is_of_files: bool = False) -> None:
+        """Warns where there is something; of files that could not be read also with --quiet."""
+        if number and (is_of_files or not self.words.is_quiet):
+            self.command.say(b"warning: " + text + (b"" if first is None else b": %d, first: %s" % (number, first)))
+
+    def warn_of_part(self, part: Recording) -> None:
         """Of a part; of users and groups with the first one."""
         if part.unread:
-            self.command.say(b"warning: %s could not be read and %s missing from the snapshot, first: %s" % (
-                counted(part.unread, "file"), b"is" if part.unread == 1 else b"are", part.first_unread))
+            self.warn(b"%s could not be read and %s missing from the snapshot, first: %s" % (
+                counted(part.unread, "file"), b"is" if part.unread == 1 else b"are", part.first_unread), is_of_files=True)
         for warned in [*part.said(), strangers(self.people, part.sums)]:
             self.warn(*warned)
         if part.sums.has_too_many_ids:
-            self.lacks = True
-            self.command.say(b"files and ACLs have more than %d ids of users, or of groups, so the snapshot may lack some"
-                             % MOST_IDS)
+            self.complain(b"files and ACLs have more than %d ids of users, or of groups, so the snapshot may lack some" % MOST_IDS)
         why = why_incomplete(self.people, part.sums)
         if why and not self.has_said_why:
-            self.command.say(why + SERVICES)
-            self.has_said_why = self.lacks = True
+            self.has_said_why = True
+            self.complain(why + SERVICES)
         if part is self.parts[0]:
             self.warn(b"names of more than 4,095 bytes, which are not recorded", self.left_out.numbers[LONG],
-                      self.left_out.first.get(LONG, b"") + b"..", True)
+                      self.left_out.first[LONG] + b"..", True)
             for warned in warned_of(self.people):
                 self.warn(*warned)
-            if not self.people.users.all and not self.quiet:
-                self.command.say(b"warning: passwd is empty: who, may and index will name nobody")
+            if not self.people.users.all:
+                self.warn(b"passwd is empty: who, may and index will name nobody")
 
-    def warn_of_unasked(self) -> None:
-        if self.people.service.unasked:
-            self.lacks = True
-            self.command.say(b"asking for users and groups took more than %d seconds, so the snapshot lacks some: names and ids "
-                             b"that were not asked for or not answered: %d" % (asking.MOST_SECONDS, self.people.service.unasked))
-
-    def check_load(self, folder: int) -> None:
+    def check_load(self, folder: int, new: NewSnapshot) -> None:
         """Has the program load a snapshot. It takes no words that are not UTF-8, and DIR may be such a name."""
-        program = self.given.program
-        if program is None:
-            if not self.quiet:
+        if self.program is None:
+            if not self.words.is_quiet:
                 self.command.say(b"whether facl loads it was not checked: facl is not on the path (--program)")
             return
-        words = [program.path, "--passwd", "passwd", "--group", "group", "--dump", "dump"]
-        with failing(program.shown, True):
-            done = subprocess.run(words, cwd=b"/proc/self/fd/%d" % folder, env=environment_of_called(), stdin=subprocess.DEVNULL,
-                                  stdout=subprocess.DEVNULL, stderr=subprocess.PIPE, check=False)
+        shown, path = self.program
+        with failing(shown, True):
+            done = subprocess.run([path, "--passwd", "passwd", "--group", "group", "--dump", "dump"], cwd=b"/proc/self/fd/%d" % folder,
+                                  env=environment_of_called(), stdin=subprocess.DEVNULL, stdout=subprocess.DEVNULL,
+                                  stderr=subprocess.PIPE, check=False)
         if done.returncode != 0:
-            self.lacks = True
-            self.command.say(program.shown + b" does not load it: " + (done.stderr.splitlines() or [b""])[-1])
-            if self.new.place.old is not None:
-                raise Failure(self.new.place.path + b" stays as it was")
+            self.complain(shown + b" does not load it: " + (done.stderr.splitlines() or [b""])[-1])
+            if new.place.old is not None:
+                raise Failure(new.place.path + b" stays as it was")
 
     # --- what it is of
 
     def meta_of(self, part: Recording) -> bytes:
-        words, left_out = self.given.words, self.left_out
+        left_out = self.left_out
         lines = [b"host " + os.fsencode(os.uname().nodename), b"date " + self.date.encode(), b"version " + VERSION.encode(),
-                 *(b"folder " + it for it in self.given.folders), *(b"exclude " + it for it in words.globs)]
+                 *(b"folder " + it for it in self.folders), *(b"exclude " + it for it in self.words.globs)]
         shown = [shown_name(it) for it in lines] + [b"other-file-system " + it for it in left_out.mounts]
         shown += [b"excluded %d" % left_out.numbers[EXCLUDED], b"symbolic-links %d" % left_out.numbers[LINK],
                   b"unread %d" % (part.unread + left_out.numbers[LONG])]
         last = b"part %s of %03d\n" % (part.name, len(self.parts)) if part.name else b""
         return b"\n".join(shown) + b"\n" + part.numbers() + self.people.numbers() + last
 
-    def report(self) -> bytes:
-        """What the last line says of people and files."""
-        text = self.people.said() + b", %d files" % self.left_out.recorded
-        return text + b" in " + counted(len(self.parts), "snapshot") if self.given.words.most is not None else text
+    def tell(self) -> bool:
+        """Says what is made; whether that could be written, whatever became of the messages before."""
+        command, given, left_out = self.command, self.words.target, self.left_out
+        command.fault = None
+        number = b" in " + counted(len(self.parts), "snapshot") if self.words.most is not None else b""
+        command.tell(b"recorded %s: %s, %d files%s; symbolic links left out: %d"
+                     % (given, self.people.said(), left_out.recorded, number, left_out.numbers[LINK]))
+        for why, text in ((OTHER_SYSTEM, b"as other file systems"), (EXCLUDED, b"by --exclude")):
+            if left_out.numbers[why]:
+                command.tell(b"%s: left out %s: %d, first: %s" % (given, text, left_out.numbers[why], left_out.first[why]))
+        command.flush()
+        return command.fault is None

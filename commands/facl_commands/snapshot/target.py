@@ -11,12 +11,12 @@ import secrets
 import signal
 import stat
 import string
-from contextlib import closing
+from contextlib import closing, suppress
 from typing import Callable, Dict, NamedTuple, Optional
 
 from ..base import acl_bytes, live, new_file, trusted
 from ..base.attempts import failing, held
-from ..base.folders import FILES
+from ..base.folders import FILES, remove_snapshot
 from ..base.messages import SIGNALS, Failure, signals_wait
 from ..base.new_file import DIRECTORY
 
@@ -121,20 +121,6 @@ def other_file(looks: Looks) -> Optional[bytes]:
     return None
 
 
-def remove_known(folder: int) -> None:
-    """Removes the files of a snapshot or of its parts, and nothing else."""
-    for name in map(os.fsencode, os.listdir(folder)):
-        try:
-            if name in FILES:
-                os.unlink(name, dir_fd=folder)
-            elif name.isdigit():
-                with held(os.open(name, DIRECTORY, dir_fd=folder)) as part:
-                    remove_known(part)
-                os.rmdir(name, dir_fd=folder)
-        except OSError:
-            pass  # It is no file of a snapshot, or no longer there.
-
-
 class NewSnapshot:
     """The folder beside DIR, in which the snapshot is made; it goes at the end."""
 
@@ -162,15 +148,13 @@ class NewSnapshot:
         """Removes what this command made; of what was replaced the files of a snapshot alone."""
         if self.work < 0:
             return
-        if not self.is_in_place and self.made >= 0:
-            self.remove_folder(MADE, self.made)
-        if self.is_in_place and self.place.old is not None and not self.remove_folder(OLD, self.place.old):
+        name, is_gone = OLD if self.is_in_place and self.place.old is not None else MADE, False
+        with suppress(OSError):
+            is_gone = remove_snapshot(name, self.work)
+        if name == OLD and not is_gone:
             self.say(b"warning: files that came into the replaced snapshot meanwhile are in " + self.path(OLD))
-        is_removed(self.name, self.place.above)
-
-    def remove_folder(self, name: bytes, folder: int) -> bool:
-        remove_known(folder)
-        return is_removed(name, self.work)
+        with suppress(OSError):
+            os.rmdir(self.name, dir_fd=self.place.above)
 
     def path(self, name: bytes) -> bytes:
         return os.path.join(os.path.dirname(self.place.path), self.name, name)
@@ -215,39 +199,28 @@ class NewSnapshot:
     def share(self, group: Optional[int]) -> None:
         """Gives its folders the owner, group and list of what is replaced, and its files those of its dump; and then all to the
         group that reads it."""
-        folder, file = (None, None) if self.place.old is None else (self.place.old, dump_of(self.place.old))
-        looks = looks_in(self.made)
-        for name, look in [*[*looks.items()][1:], (b".", looks[b""])]:
+        old = self.place.old
+        dump = None if old is None else dump_of(old)
+        for name, look in reversed(looks_in(self.made).items()):
             is_folder = stat.S_ISDIR(look.st_mode)
-            like = folder if is_folder else file
-            with held(os.open(name, READ, dir_fd=self.made)) as descriptor:
+            like = old if is_folder else dump
+            with held(os.open(name or b".", READ, dir_fd=self.made)) as descriptor:
                 if like is not None:
                     take_look(descriptor, like)
                 if not is_folder:
                     os.fchmod(descriptor, os.fstat(descriptor).st_mode & 0o7777 & ~0o022)
                 if group is not None:
                     new_file.share(descriptor, group, 0o750 if is_folder else 0o640)
-        if file is not None:
-            os.close(file)
+        if dump is not None:
+            os.close(dump)
 
 
 def dump_of(folder: int) -> Optional[int]:
     """The open dump of a snapshot, or of its first part; None where it has none."""
     for name in (b"dump", b"001/dump"):
-        try:
+        with suppress(FileNotFoundError):
             return os.open(name, READ, dir_fd=folder)
-        except FileNotFoundError:
-            pass
     return None
-
-
-def is_removed(name: bytes, above: int) -> bool:
-    """Removes a folder where nothing is in it."""
-    try:
-        os.rmdir(name, dir_fd=above)
-    except OSError:
-        return False
-    return True
 
 
 def take_look(descriptor: int, like: int) -> None:

@@ -5,8 +5,9 @@ import argparse
 import datetime
 from typing import Callable, Dict, Iterator, List, Tuple
 
+from ..base.folders import remove_snapshot
 from ..base.messages import Command, Failure, counted
-from ..daily.folder import DailyFolder, remove_known
+from ..daily.folder import DailyFolder
 from ..model import meta
 from .store import Stored, place, snapshots_in
 
@@ -51,7 +52,7 @@ def remove(command: Command, folder: DailyFolder, names: List[bytes]) -> int:
     """Removes snapshots, the oldest first; returns how many are gone."""
     gone = 0
     for name in names:
-        if remove_known(name, folder.descriptor, has_parts=True):
+        if remove_snapshot(name, folder.descriptor):
             gone += 1
         else:
             command.say(name + b": has other files too, so these stay")
