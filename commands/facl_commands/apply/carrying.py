@@ -54,7 +54,7 @@ class Carrier:
     def begin(self) -> None:
         """Keeps in the plan what is about to be done, before anything is touched."""
         self.write_journal()
-        plan_folder.set_state(self.way.folder, plan_folder.UNDOING if self.way.is_undo else plan_folder.APPLYING)
+        self.way.folder.replace(b"state", plan_folder.UNDOING if self.way.is_undo else plan_folder.APPLYING)
 
     def identities(self) -> Dict[bytes, Identity]:
         return {path: seen.identity for path, seen in self.seen.items()}
@@ -229,7 +229,7 @@ class Carrier:
         with Opener() as opener:
             for device, (path, seen) in files.items():
                 write_out(opener, device, path if seen.is_directory else parent_of(path))
-        plan_folder.set_state(self.way.folder, state)
+        self.way.folder.replace(b"state", state)
 
 
 def write_out(opener: Opener, device: int, folder: bytes) -> None:

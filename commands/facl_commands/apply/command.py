@@ -5,13 +5,14 @@ import argparse
 import grp
 import os
 import pwd
+import signal
 from collections import Counter
 from typing import Callable, Dict, List, Mapping, Tuple
 
 from ..base import live
 from ..base.acl_bytes import Record
 from ..base.live import Seen
-from ..base.messages import Command, Failure, counted, parser_of, reason, signals_wait
+from ..base.messages import SIGNALS, Command, Failure, counted, parser_of, reason, signals_wait
 from ..base.names import live_name, path_order, shell_word
 from ..model import meta
 from ..planned import by_hand as planned_by_hand
@@ -162,7 +163,8 @@ def carry_out(command: Command, way: Direction, carrier: Carrier, is_whole: bool
                         + shell_word(way.folder.name))
             status = IN_PART
         if status != NOT_DONE:
-            plan_folder.ignore_signals()
+            for number in SIGNALS:  # None ends the command from now on, nor does one that waits.
+                signal.signal(number, signal.SIG_IGN)
     return status
 
 
