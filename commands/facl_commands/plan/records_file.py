@@ -1,7 +1,6 @@
 """The file `files` of a plan, as facl-plan writes it: the lists of records are bytes that the program prints."""
 from __future__ import annotations
 
-import json
 import re
 from typing import Dict, Iterable, List, Tuple
 
@@ -11,7 +10,7 @@ from ..model.entries import NOTHING, flag_digit, head_lines, lists_of, read_reco
 from ..model.records import Files, write_records
 from ..model.snapshot import Snapshot
 from ..planned import differences
-from ..planned.plan_files import NOWHERE, are_valid, fields_of, rows_text
+from ..planned.plan_files import NOWHERE, are_valid, fields_of, text_of
 from ..program.protocol import ATTRIBUTE_LINES, ATTRIBUTES_OF, FILE_HEAD
 from ..program.session import session_over
 
@@ -59,8 +58,7 @@ def file_texts(program: str, snapshot: Snapshot, paths: List[bytes], old: Files,
     records = ask_records(program, [files[path].body for path in paths for files in (old, new)])
     numbers = {body: number for number, body in enumerate(records)}
     same = {path: number for number, names in enumerate(snapshot.links, 1) for path in names}
-    rows = [(old[path].is_directory, *snapshot.inodes.get(path, NOWHERE), same.get(path, 0), numbers[old[path].body],
+    rows = [(int(old[path].is_directory), *snapshot.inodes.get(path, NOWHERE), same.get(path, 0), numbers[old[path].body],
              numbers[new[path].body]) for path in paths]
-    head = json.dumps({"boot": snapshot.boot, "records": list(map(fields_of, records.values()))}, separators=(",", ":"))
-    return {b"files": b'%s,"files":%s}\n' % (head[:-1].encode(), rows_text(paths, rows, 7).encode()),
-            b"old": write_records(old, paths), b"new": write_records(new, paths)}
+    text = text_of(paths, rows, boot=snapshot.boot, records=list(map(fields_of, records.values())))
+    return {b"files": text, b"old": write_records(old, paths), b"new": write_records(new, paths)}
