@@ -118,8 +118,7 @@ class Carrier:
         return left
 
     def parts(self, paths: List[bytes]) -> List[List[bytes]]:
-        """The parts of the processes. Only root changes files in any order, and the names of one file are in one
-        part."""
+        """The parts of the processes. Only root changes files in any order, and the names of one file are in one part."""
         parts = workers.parts_of(paths) if os.geteuid() == 0 else []
         if len(parts) < 2:
             return [paths]

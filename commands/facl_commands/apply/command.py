@@ -43,8 +43,7 @@ neither as they were nor as they should be: they are named; 5 where it is done, 
 def parse(words: List[str]) -> argparse.Namespace:
     parser = parser_of("facl-apply", HELP, STATUS)
     parser.add_argument("--dry-run", action="store_true", help="compare, say which files would be changed, and stop")
-    parser.add_argument("--undo", action="store_true",
-                        help="give the files their old records, with the same comparisons")
+    parser.add_argument("--undo", action="store_true", help="give the files their old records, with the same comparisons")
     parser.add_argument("--leave-changed", action="store_true",
                         help="with --undo: leave out files that somebody changed or removed since")
     parser.add_argument("--drop-capabilities", action="store_true",
@@ -166,8 +165,7 @@ def give_all(command: Command, way: Direction, carrier: Carrier, is_whole: bool)
 
 
 def say_without_row(command: Command, records: List[Record]) -> None:
-    """Names the ids in the `records` of files that no user or group has now: the next one who gets such an id has the
-    files."""
+    """Names the ids in the `records` of files that no user or group has now: the next one who gets such an id has the files."""
     sides: List[Tuple[bytes, Counter[int], Callable[[int], object]]] = [
         (b"user", Counter(record.owner for record in records), pwd.getpwuid),
         (b"group", Counter(record.group for record in records), grp.getgrgid),

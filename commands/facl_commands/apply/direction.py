@@ -1,5 +1,4 @@
-"""A plan on its way to the live system or back: its files are looked at, and what keeps one from its new record is
-found."""
+"""A plan on its way to the live system or back: its files are looked at, and what keeps one from its new record is found."""
 from __future__ import annotations
 
 import contextlib
@@ -95,8 +94,7 @@ def closes(way: Direction, path: bytes) -> bool:
 
 
 def was_closed(way: Direction, path: bytes, now: Record) -> bool:
-    """Whether a run that was cut off has left a directory closed to the caller which is only to be closed at the
-    end."""
+    """Whether a run that was cut off has left a directory closed to the caller which is only to be closed at the end."""
     return way.is_in_part() and closes(way, path) and not owner_permissions(now.access) & 1
 
 

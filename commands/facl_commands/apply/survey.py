@@ -42,8 +42,7 @@ def received(sent: List[Any]) -> List[Found]:
 
 
 def look_at_all(paths: List[bytes]) -> List[Found]:
-    """What is found of each path, by several processes where there are many; where one ended early, this process
-    looks."""
+    """What is found of each path, by several processes where there are many; where one ended early, this process looks."""
     parts = parts_of(paths)
     helpers: List[Helper] = []
     try:

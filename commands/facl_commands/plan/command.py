@@ -64,8 +64,7 @@ def parse(words: List[str]) -> argparse.Namespace:
                       help="judge each file alone, without search permission on its parent directories")
     view.add_argument("--reach", action="store_true", help="count search permission on parent directories (default)")
     parser.add_argument("--with-root", action="store_true", help="judge users of the id 0 by the ACLs too")
-    parser.add_argument("--json", action="store_true",
-                        help="print one JSON object; bytes that are no UTF-8 are escapes")
+    parser.add_argument("--json", action="store_true", help="print one JSON object; bytes that are no UTF-8 are escapes")
     parser.add_argument("--keep-going", action="store_true", help="plan the other lines where some were refused")
     parser.add_argument("--readers", metavar="GROUP", help="let the members of a group read the plan")
     sources.add_source(parser, words)
@@ -245,13 +244,9 @@ def plan_over(command: Command, given: argparse.Namespace, source: sources.Sourc
         kept = plan_folder.write_plan(target, plan_files(program, snapshot, scripts, outcome, changes, steps), group)
         if kept is not None:
             command.say(b"kept the earlier plan as " + kept)
-    if given.json:
-        for part in json_report(given, source, outcome, changes, commands, written, stuck):
-            command.write(part)
-    elif is_shown:
-        if outcome.about is not meta.UNKNOWN:
-            command.tell(meta.named(source.shown, outcome.about))
-        for part in text_report(given, outcome, changes, commands, written):
+    if given.json or is_shown:
+        report = json_report if given.json else text_report
+        for part in report(given, source, outcome, changes, commands, written, stuck):
             command.write(part)
     if not has_work and not outcome.refusals():
         command.say(b"nothing to do: no line changes an ACL, an owner, a flag, a file or a user")

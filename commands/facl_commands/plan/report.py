@@ -103,18 +103,20 @@ def summary(changes: ChangedPaths, commands: List[bytes], outcome: Outcome) -> b
     return b"; ".join(parts)
 
 
-def text_report(given: argparse.Namespace, outcome: Outcome, changes: ChangedPaths, commands: List[bytes],
-                target: Optional[bytes]) -> Iterator[bytes]:
+def text_report(given: argparse.Namespace, source: Source, outcome: Outcome, changes: ChangedPaths, commands: List[bytes],
+                plan: Optional[bytes], _stuck: Dict[bytes, bytes]) -> Iterator[bytes]:
+    if outcome.about is not meta.UNKNOWN:
+        yield shown(meta.named(source.shown, outcome.about)) + b"\n"
     if given.full:
         yield from full_lines(outcome)
     lines = [*short_lines(outcome, [] if given.full else outcome.kinds)]
     if any(it.user == SHOWN for it in outcome.kinds):
         lines += beside(outcome.about)
     lines.append(summary(changes, commands, outcome))
-    if target is not None:  # What is still to be done by hand facl-apply says.
-        name = b"./" * target.startswith(b"-") + target
+    if plan is not None:  # What is still to be done by hand facl-apply says.
+        name = b"./" * plan.startswith(b"-") + plan
         step = b"facl apply " + shell_word(name) if changes.changed else b"sh " + shell_word(name + b"/by_hand")
-        lines.append(b"wrote " + target + b"; next: " + step)
+        lines.append(b"wrote " + plan + b"; next: " + step)
     lines += [b"by hand: " + command for command in commands]
     lines += [note for left in outcome.left for note in chown.notes(left, outcome.name_of)]
     yield from (shown(line) + b"\n" for line in lines)
