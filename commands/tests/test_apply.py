@@ -531,7 +531,7 @@ class SideBySide(Meanwhile):
         os.rename(os.path.join(self.tree, "f22"), os.path.join(self.tree, "away"))
         os.symlink("away", os.path.join(self.tree, "f22"))
         paths = list(carrier.seen)
-        found = survey.look_at_all(paths, lambda path: (carrier.way.identity(path), carrier.way.start(path)))
+        found = survey.look_at_all(paths)
         self.assertEqual(found, survey.look(paths))
         self.assertEqual([it for it in found if isinstance(it, bytes)], [b"is gone", b"is a symbolic link now"])
         self.assertEqual(len({it.record for it in found if isinstance(it, live.Seen)}), 2)

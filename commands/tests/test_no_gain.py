@@ -16,7 +16,7 @@ from common import COMMANDS, HERE, Case
 sys.path.insert(0, COMMANDS)
 
 from facl_commands.model.snapshot import Snapshot, read_snapshot  # noqa: E402
-from facl_commands.plan import command as plan, no_gain, opening  # noqa: E402
+from facl_commands.plan import command as plan, no_gain, report  # noqa: E402
 from facl_commands.program.scripts import read_script  # noqa: E402
 
 WRITTEN = b"wrote before.plan; next: facl apply before.plan\n"
@@ -126,7 +126,7 @@ class Lines(Case):
         script = read_script(b"edits", b"setfacl -n -m u:guest:r srv/share/one\n")
         for edits, edit in (([b"m::rwx", b"u:guest:r"], b""),
                             ([b"m::rwx", b"u:guest:x", b"u:guest:rx"], b"setfacl -n -m u:guest:x /srv/share")):
-            with mock.patch.object(opening, "edits_to_try", lambda *_, its=edits: its):
+            with mock.patch.object(no_gain, "edits_to_try", lambda *_, its=edits: its):
                 found = plan.answer_scripts(GIVEN, snapshot, script)
             self.assertEqual([(it.user, it.edit) for it in found.no_gain], [(b"guest", edit)])
             end = b"; add to the edits: " + edit if edit else b" (other::---)"
@@ -157,7 +157,7 @@ class Chain(Case):
 
         with mock.patch.object(no_gain.Ways, "closes", counted):
             found = plan.answer_scripts(GIVEN, snapshot, read_script(b"edits", b"setfacl -R -n -m u:guest:r,u:mara:r srv/share/d\n"))
-        self.assertEqual([(it.user, it.files, it.opened + it.closed) for it in found.no_gain],
+        self.assertEqual([(it.user, it.files, len(it.paths) + it.closed) for it in found.no_gain],
                          [(b"mara", depth, depth), (b"guest", depth, depth)])
         self.assertLess(looks[0], 4 * depth)
 
@@ -180,7 +180,7 @@ class Random(Case):
         self.write("before/dump", b"".join(self.record(path) for path in sorted(DIRECTORIES + FILES)))
         return read_snapshot(os.fsencode(self.path("before")))
 
-    def outcome(self, snapshot: Snapshot, script: bytes) -> Tuple[plan.Outcome, Set[Tuple[bytes, ...]], List[bytes]]:
+    def outcome(self, snapshot: Snapshot, script: bytes) -> Tuple[report.Outcome, Set[Tuple[bytes, ...]], List[bytes]]:
         """With users and files of whom the program says that they gain along paths, and the lines of its index."""
         found = plan.answer_scripts(GIVEN, snapshot, read_script(b"edits", script + b"changes --reach\nindex\n"))
         self.assertEqual(found.messages, [])

@@ -11,7 +11,7 @@ from ..base import linux, live, workers
 from ..base.acl_bytes import Record
 from ..base.linux import Identity
 from ..base.live import PLACES, NotFound, Opener, OpenFile, Seen
-from ..base.messages import SIGNALS, reason
+from ..base.messages import SIGNALS, Failure, reason
 from ..base.names import parent_of, path_order
 from ..base.progress import AT
 from ..base.workers import Helper, Stop
@@ -22,12 +22,8 @@ from .direction import REPLACED, Direction, Look, closes, is_expected, look_at, 
 OFTEN = 64  # Files between two looks at the signals that wait.
 
 
-class Mismatch(Exception):
+class Mismatch(Failure):
     """A file is not as it has to be; the text says how."""
-
-    def __init__(self, text: bytes) -> None:
-        super().__init__(text)
-        self.text = text
 
 
 def waiting_signals() -> Set[int]:
@@ -54,14 +50,12 @@ class Carrier:
     def begin(self) -> None:
         """Keeps in the plan what is about to be done, before anything is touched."""
         self.write_journal()
-        plan_folder.set_state(self.way.folder, plan_folder.UNDOING if self.way.is_undo else plan_folder.APPLYING)
-
-    def identities(self) -> Dict[bytes, Identity]:
-        return {path: seen.identity for path, seen in self.seen.items()}
+        self.way.folder.replace(b"state", plan_folder.UNDOING if self.way.is_undo else plan_folder.APPLYING)
 
     def write_journal(self) -> None:
-        known = {} if self.way.journal is None else self.way.journal.files
-        self.way.folder.replace(b"journal", plan_files.journal_text(linux.boot(), {**known, **self.identities()}))
+        files = {} if self.way.journal is None else dict(self.way.journal.files)
+        files.update((path, seen.identity) for path, seen in self.seen.items())
+        self.way.folder.replace(b"journal", plan_files.journal_text(linux.boot(), files))
 
     def run(self) -> Dict[bytes, bytes]:
         """Gives the files their new records; returns those that did not get them, with the reason. A plan that is taken
@@ -93,8 +87,7 @@ class Carrier:
         try:
             self.write_journal()
         except OSError as error:
-            left.update({path: b"is not in the journal, which cannot be written: " + reason(error)
-                         for path in seen_ones})
+            left.update(dict.fromkeys(seen_ones, b"is not in the journal, which cannot be written: " + reason(error)))
         if self.way.is_undo or not left:
             left.update(self.open_all(seen_ones))
         return left
@@ -116,7 +109,7 @@ class Carrier:
         try:
             for part in others:
                 helpers.append(Helper(partial(self.give_apart, part), keeps_signals=True))
-            left = self.give_part(first)
+            left = self.walk(self.give_one, first, is_whole=self.way.is_undo)
             for helper, part in zip(helpers, others):
                 left.update(self.given_by(helper, part))
         finally:
@@ -125,17 +118,13 @@ class Carrier:
         return left
 
     def parts(self, paths: List[bytes]) -> List[List[bytes]]:
-        """The parts of the processes. Only root changes files in any order, and the names of one file are in one
-        part."""
+        """The parts of the processes. Only root changes files in any order, and the names of one file are in one part."""
         parts = workers.parts_of(paths) if os.geteuid() == 0 else []
         if len(parts) < 2:
             return [paths]
         several = {path for path in paths if self.seen[path].names > 1 and not self.seen[path].is_directory}
         return [parts[0] + sorted(several.difference(parts[0]), key=path_order),
                 *([path for path in part if path not in several] for part in parts[1:])]
-
-    def give_part(self, paths: Iterable[bytes]) -> Dict[bytes, bytes]:
-        return self.walk(self.give_one, paths, is_whole=self.way.is_undo)
 
     def walk(self, step: Callable[[Opener, bytes], None], paths: Iterable[bytes], is_whole: bool) -> Dict[bytes, bytes]:
         """Does something with each file; returns those with which it could not be done, with the reason. A walk that is
@@ -144,9 +133,7 @@ class Carrier:
         with Opener() as opener:
             for number, path in enumerate(paths):
                 AT.done = number
-                if not is_whole and number % OFTEN == 0:
-                    self.stop_at_signal()
-                if not is_whole and self.stop.is_set():
+                if not is_whole and (self.is_stopped() if number % OFTEN == 0 else self.stop.is_set()):
                     break
                 fault = fault_of(step, opener, path)
                 if fault is not None:
@@ -159,7 +146,7 @@ class Carrier:
         """What another process changed, and what it could not."""
         PLACES.begin_in_own_process()
         self.changed = []
-        left = self.give_part(paths)
+        left = self.walk(self.give_one, paths, is_whole=self.way.is_undo)
         return self.changed, left
 
     def given_by(self, helper: Helper, part: List[bytes]) -> Dict[bytes, bytes]:
@@ -170,8 +157,7 @@ class Carrier:
         if not isinstance(result, tuple):
             self.stop.set()
             self.changed += part
-            return {part[0]: b"may be changed, and so may files after it: the process that was at work on them has "
-                             b"ended"}
+            return {part[0]: b"may be changed, and so may files after it: the process that was at work on them has ended"}
         changed, left = result
         self.changed += changed
         return dict(left)
@@ -184,8 +170,7 @@ class Carrier:
         return seen
 
     def give_one(self, opener: Opener, path: bytes) -> None:
-        file = opener.open(path)
-        try:
+        with contextlib.closing(opener.open(path)) as file:
             seen, end = self.look_again(file, path), self.way.end(path)
             is_done = bool(self.finished) and seen.identity in self.finished and seen.record == end  # By another name.
             if seen != self.seen[path] and not is_done and not is_expected(self.way, path, seen.record):
@@ -196,8 +181,6 @@ class Carrier:
             change(file, seen.record, end, seen.is_directory)
             if seen.names > 1:
                 self.finished.add(seen.identity)
-        finally:
-            file.close()
 
     def stop_at_signal(self) -> None:
         """Where a signal waits, no process changes a further file."""
@@ -216,20 +199,17 @@ class Carrier:
 
     def put_one_back(self, opener: Opener, path: bytes) -> None:
         """Gives a file the record of the start."""
-        file = opener.open(path)
-        try:
+        with contextlib.closing(opener.open(path)) as file:
             seen = self.look_again(file, path)
             change(file, seen.record, self.way.start(path), seen.is_directory)
-        finally:
-            file.close()
 
     def end(self, state: bytes) -> None:
         """Keeps in the plan what was done, when that is on the disk."""
-        files = {seen.identity.device: (path, seen) for path, seen in self.seen.items()}
+        folders = {seen.identity.device: path if seen.is_directory else parent_of(path) for path, seen in self.seen.items()}
         with Opener() as opener:
-            for device, (path, seen) in files.items():
-                write_out(opener, device, path if seen.is_directory else parent_of(path))
-        plan_folder.set_state(self.way.folder, state)
+            for device, folder in folders.items():
+                write_out(opener, device, folder)
+        self.way.folder.replace(b"state", state)
 
 
 def write_out(opener: Opener, device: int, folder: bytes) -> None:

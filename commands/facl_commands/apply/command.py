@@ -5,13 +5,14 @@ import argparse
 import grp
 import os
 import pwd
+import signal
 from collections import Counter
 from typing import Callable, Dict, List, Mapping, Tuple
 
 from ..base import live
 from ..base.acl_bytes import Record
 from ..base.live import Seen
-from ..base.messages import Command, Failure, counted, parser_of, reason, signals_wait
+from ..base.messages import SIGNALS, Command, Failure, counted, parser_of, reason, signals_wait
 from ..base.names import live_name, path_order, shell_word
 from ..model import meta
 from ..planned import by_hand as planned_by_hand
@@ -42,8 +43,7 @@ neither as they were nor as they should be: they are named; 5 where it is done, 
 def parse(words: List[str]) -> argparse.Namespace:
     parser = parser_of("facl-apply", HELP, STATUS)
     parser.add_argument("--dry-run", action="store_true", help="compare, say which files would be changed, and stop")
-    parser.add_argument("--undo", action="store_true",
-                        help="give the files their old records, with the same comparisons")
+    parser.add_argument("--undo", action="store_true", help="give the files their old records, with the same comparisons")
     parser.add_argument("--leave-changed", action="store_true",
                         help="with --undo: leave out files that somebody changed or removed since")
     parser.add_argument("--drop-capabilities", action="store_true",
@@ -56,13 +56,12 @@ def parse(words: List[str]) -> argparse.Namespace:
 
 
 def say_cut_off(command: Command, way: Direction, look: Look) -> None:
-    if not way.was_cut_off():
-        return
-    files = way.work.files
-    old = sum(seen.record == files[path].old for path, seen in look.files.items())
-    new = sum(seen.record == files[path].new for path, seen in look.files.items())
-    command.say(b"an earlier run was interrupted: %s unchanged, %d changed, %d half-changed" %
-                (counted(old, "file"), new, len(look.files) - old - new))
+    if way.was_cut_off():
+        files = way.work.files
+        old = sum(seen.record == files[path].old for path, seen in look.files.items())
+        new = sum(seen.record == files[path].new for path, seen in look.files.items())
+        command.say(b"an earlier run was interrupted: %s unchanged, %d changed, %d half-changed" %
+                    (counted(old, "file"), new, len(look.files) - old - new))
 
 
 def say_list(command: Command, way: Direction, found: Dict[bytes, bytes], files: Mapping[bytes, Seen] = {}) -> None:
@@ -98,45 +97,26 @@ def nothing_to_do(command: Command, way: Direction) -> bool:
     return True
 
 
-def warn_of_inodes(command: Command, way: Direction) -> None:
-    if way.journal is None and plan_files.NOWHERE in (file.identity for file in way.work.files.values()):
-        command.say(b"warning: the snapshot has no inodes, so nobody notices a file that was replaced by another of the "
-                    b"same owner, group, flags and ACL")
-
-
-def warn_of_host(command: Command, way: Direction) -> None:
-    about = meta.read_meta(way.folder.read(meta.NAME)) if way.folder.has(meta.NAME) else meta.UNKNOWN
-    if meta.is_of_another_host(about):
-        command.say(b"warning: the snapshot is " + about.text() + b", not of this host")
-
-
-def warn_of_names(command: Command, look: Look) -> None:
+def warn(command: Command, way: Direction, look: Look) -> None:
+    """Of files with names beside those of the plan, and of a snapshot that does not tell one file from another."""
     plain = {path: seen for path, seen in look.files.items() if seen.names > 1 and not seen.is_directory}
     names = Counter(seen.identity for seen in plain.values())
     found = [path for path, seen in plain.items() if seen.names > names[seen.identity]]
     if found:
         command.say(b"warning: files with other hard links that are not in the plan, and change too: %d, first: %s" %
                     (len(found), live_name(found[0])))
+    if way.journal is None and plan_files.NOWHERE in (file.identity for file in way.work.files.values()):
+        command.say(b"warning: the snapshot has no inodes, so nobody notices a file that was replaced by another of the "
+                    b"same owner, group, flags and ACL")
 
 
 def end(command: Command, way: Direction, carrier: Carrier, state: bytes) -> None:
-    """Where the state of the plan cannot be written, it looks like one that was cut off, and --undo goes all the
-    same."""
+    """A plan whose state cannot be written looks like one that was cut off, and --undo goes all the same."""
     try:
         carrier.end(state)
     except OSError as error:
         command.say(way.folder.name + b": cannot be written: " + reason(error)
                     + b"; the next run will say that this one was interrupted")
-
-
-def put_back(command: Command, way: Direction, carrier: Carrier) -> int:
-    """Gives back what was there before this run."""
-    left = carrier.put_back()
-    if left:
-        return say_in_part(command, way, left)
-    end(command, way, carrier, plan_folder.UNDONE)
-    command.say(b"restored the old owners, groups, flags and ACLs")
-    return NOT_DONE
 
 
 def say_in_part(command: Command, way: Direction, left: Dict[bytes, bytes]) -> int:
@@ -153,26 +133,31 @@ def carry_out(command: Command, way: Direction, carrier: Carrier, is_whole: bool
         try:
             carrier.begin()
         except OSError as error:
-            raise Failure(way.folder.name + b": cannot be written: " + reason(error)
-                          + b"; nothing was changed") from error
+            raise Failure(way.folder.name + b": cannot be written: " + reason(error) + b"; nothing was changed") from error
         try:
             status = give_all(command, way, carrier, is_whole)
         except MemoryError:
-            command.say(b"memory ran out, so files may be half-changed: run facl undo "
-                        + shell_word(way.folder.name))
+            command.say(b"memory ran out, so files may be half-changed: run facl undo " + shell_word(way.folder.name))
             status = IN_PART
         if status != NOT_DONE:
-            plan_folder.ignore_signals()
+            for number in SIGNALS:  # None ends the command from now on, nor does one that waits.
+                signal.signal(number, signal.SIG_IGN)
     return status
 
 
 def give_all(command: Command, way: Direction, carrier: Carrier, is_whole: bool) -> int:
+    """Gives back what was there before this run if a file of a plan that is applied does not get its record."""
     left = carrier.run()
     if way.is_undo and left:
         return say_in_part(command, way, left)
     if left or carrier.is_stopped() and not way.is_undo:
         say_list(command, way, left)
-        return put_back(command, way, carrier)
+        left = carrier.put_back()
+        if left:
+            return say_in_part(command, way, left)
+        end(command, way, carrier, plan_folder.UNDONE)
+        command.say(b"restored the old owners, groups, flags and ACLs")
+        return NOT_DONE
     whole = plan_folder.UNDONE if way.is_undo else plan_folder.APPLIED
     end(command, way, carrier, whole if is_whole else plan_folder.UNDONE_IN_PART)
     command.tell((b"restored " if way.is_undo else b"changed ") + counted(len(carrier.seen), "file"))
@@ -180,8 +165,7 @@ def give_all(command: Command, way: Direction, carrier: Carrier, is_whole: bool)
 
 
 def say_without_row(command: Command, records: List[Record]) -> None:
-    """Names the ids in the `records` of files that no user or group has now: the next one who gets such an id has the
-    files."""
+    """Names the ids in the `records` of files that no user or group has now: the next one who gets such an id has the files."""
     sides: List[Tuple[bytes, Counter[int], Callable[[int], object]]] = [
         (b"user", Counter(record.owner for record in records), pwd.getpwuid),
         (b"group", Counter(record.group for record in records), grp.getgrgid),
@@ -217,7 +201,9 @@ def body(command: Command, words: List[str]) -> int:
         for line in rest:
             command.tell(line)
         return NOTHING
-    warn_of_host(command, way)
+    about = meta.read_meta(way.folder.read(meta.NAME)) if way.folder.has(meta.NAME) else meta.UNKNOWN
+    if meta.is_of_another_host(about):
+        command.say(b"warning: the snapshot is " + about.text() + b", not of this host")
     look = look_at(way, way.work.files)
     changed = unexpected(way, look)
     say_cut_off(command, way, look)
@@ -232,8 +218,7 @@ def body(command: Command, words: List[str]) -> int:
     if obstacles:
         say_list(command, way, obstacles)
         raise Failure(b"nothing was changed")
-    warn_of_names(command, look)
-    warn_of_inodes(command, way)
+    warn(command, way, look)
     if given.dry_run:
         for path in [*look.files, *look.later]:
             command.tell(b"would change " + live_name(path) + b": " + differences.parts(way.start(path), way.end(path)))

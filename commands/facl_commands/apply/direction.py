@@ -1,7 +1,7 @@
-"""A plan on its way to the live system or back: its files are looked at, and what keeps one from its new record is
-found."""
+"""A plan on its way to the live system or back: its files are looked at, and what keeps one from its new record is found."""
 from __future__ import annotations
 
+import contextlib
 import os
 import stat
 from typing import Dict, Iterable, List, NamedTuple, Optional, Set, Tuple
@@ -68,9 +68,8 @@ class Look(NamedTuple):
 
 
 def read_way(folder: PlanFolder, is_undo: bool) -> Direction:
-    state = folder.state()
+    state, journal = folder.state(), None
     work = plan_files.read_work(os.path.join(folder.name, b"files"), folder.read(b"files"))
-    journal = None
     if state and folder.has(b"journal"):
         journal = plan_files.read_journal(os.path.join(folder.name, b"journal"), folder.read(b"journal"))
     return Direction(folder, state, work, journal, is_undo)
@@ -95,19 +94,8 @@ def closes(way: Direction, path: bytes) -> bool:
 
 
 def was_closed(way: Direction, path: bytes, now: Record) -> bool:
-    """Whether a run that was cut off has left a directory closed to the caller which is only to be closed at the
-    end."""
+    """Whether a run that was cut off has left a directory closed to the caller which is only to be closed at the end."""
     return way.is_in_part() and closes(way, path) and not owner_permissions(now.access) & 1
-
-
-def fault_of(way: Direction, devices: Devices, path: bytes, found: survey.Found) -> Optional[bytes]:
-    """Why what was found of a path is not the file that the plan is about."""
-    if isinstance(found, bytes):
-        return found
-    file = way.work.files[path]
-    if found.is_directory != file.is_directory:
-        return b"is not a directory now" if file.is_directory else b"is a directory now"
-    return None if devices.is_same(way.identity(path), found.identity) else REPLACED
 
 
 def look_at(way: Direction, paths: Iterable[bytes]) -> Look:
@@ -117,7 +105,7 @@ def look_at(way: Direction, paths: Iterable[bytes]) -> Look:
     devices = Devices(way.boot(), linux.boot())
     if os.geteuid() == 0:
         names = list(paths)
-        for path, found in zip(names, survey.look_at_all(names, lambda path: (way.identity(path), way.start(path)))):
+        for path, found in zip(names, survey.look_at_all(names)):
             take(way, devices, look, path, found)
         return look
     opened: List[bytes] = []  # The directories that the plan opens to the caller.
@@ -133,12 +121,17 @@ def look_at(way: Direction, paths: Iterable[bytes]) -> Look:
 
 def take(way: Direction, devices: Devices, look: Look, path: bytes, found: survey.Found) -> bool:
     """Takes what was found of a path; whether it is the file that the plan is about."""
-    fault = fault_of(way, devices, path, found)
-    if fault is not None:
-        look.faults[path] = fault
-    elif not isinstance(found, bytes):
+    file = way.work.files[path]
+    if isinstance(found, bytes):
+        look.faults[path] = found
+    elif found.is_directory != file.is_directory:
+        look.faults[path] = b"is not a directory now" if file.is_directory else b"is a directory now"
+    elif not devices.is_same(way.identity(path), found.identity):
+        look.faults[path] = REPLACED
+    else:
         look.files[path] = found
-    return fault is None
+        return True
+    return False
 
 
 def is_closed(way: Direction, path: bytes, now: Record) -> bool:
@@ -158,30 +151,19 @@ def unexpected(way: Direction, look: Look) -> Dict[bytes, bytes]:
     first: Dict[int, Identity] = {}
     found = dict(look.faults)
     for path, seen in look.files.items():
-        file = way.work.files[path]
-        start = file.new if way.is_undo else file.old
-        if file.same and first.setdefault(file.same, seen.identity) != seen.identity:
+        same = way.work.files[path].same
+        if same and first.setdefault(same, seen.identity) != seen.identity:
             found[path] = b"is another file than the other name that it had in the snapshot"
-        elif seen.record != start and not is_expected(way, path, seen.record):
-            found[path] = b"was changed: " + differences.parts(seen.record, start)
+        elif not is_expected(way, path, seen.record):
+            found[path] = b"was changed: " + differences.parts(seen.record, way.start(path))
     return found
-
-
-def loses_group_flag(start: Record, end: Record) -> bool:
-    """Whether the system takes set-group-ID away on this way or back: who is not root and not in the file's group loses
-    it by a new list or mode."""
-    return (
-        bool((start.flags | end.flags) & stat.S_ISGID) and (start.access, start.flags) != (end.access, end.flags)
-        and end.group not in {os.getegid(), *os.getgroups()}
-    )
 
 
 class Obstacles:
     """Looks for what is known before, with each mount looked at once."""
 
     def __init__(self, way: Direction, drops_capabilities: bool) -> None:
-        self.way = way
-        self.drops_capabilities = drops_capabilities
+        self.way, self.drops_capabilities = way, drops_capabilities
         self.read_only: Dict[Mount, bool] = {}
         self.has_lists: Dict[int, bool] = {}
         self.overlays: Dict[int, int] = {}  # As system.overlay_of says.
@@ -193,21 +175,12 @@ class Obstacles:
             return b"is not yours: run it as root"
         if seen.record.ids() != self.way.end(path).ids():
             return b"would get another owner or group: run it as root"
-        if loses_group_flag(self.way.start(path), self.way.end(path)):
+        # The system takes set-group-ID away, on this way or back, by a new list or mode.
+        start, end = self.way.start(path), self.way.end(path)
+        if ((start.flags | end.flags) & stat.S_ISGID and (start.access, start.flags) != (end.access, end.flags)
+                and end.group not in {os.getegid(), *os.getgroups()}):
             return b"would lose set-group-ID, since you are not in its group: run it as root"
         return None
-
-    def of_system(self, opener: Opener, path: bytes, seen: Seen) -> Optional[bytes]:
-        """What keeps the file that was looked at; where another one is there now, that is for the next look at it."""
-        try:
-            file = opener.open(path)
-        except NotFound as error:
-            return error.text
-        try:
-            is_same = file.look().identity == seen.identity
-            return self.of_file(file, path, seen) if is_same else REPLACED
-        finally:
-            file.close()
 
     def of_file(self, file: OpenFile, path: bytes, seen: Seen) -> Optional[bytes]:
         device, (_, mount), end = seen.identity.device, seen.beside, self.way.end(path)
@@ -232,20 +205,24 @@ class Obstacles:
             return b"has capabilities, which it would lose by its new owner or group: --drop-capabilities allows that"
         return None
 
-    def has_more(self, seen: Seen, end: Record) -> bool:
-        """Whether a file itself has to be opened: its mount is not known yet or may hinder it, or its owner changes."""
-        return seen.beside[1] not in self.free or seen.record.ids() != end.ids()
+    def of_system(self, opener: Opener, path: bytes, seen: Seen) -> Optional[bytes]:
+        """What keeps the file that was looked at; where another one is there now, that is for the next look at it."""
+        try:
+            with contextlib.closing(opener.open(path)) as file:
+                return self.of_file(file, path, seen) if file.look().identity == seen.identity else REPLACED
+        except NotFound as error:
+            return error.text
 
     def all(self, look: Look) -> Dict[bytes, bytes]:
-        """The obstacles of all files."""
-        found = {}
-        is_root = os.geteuid() == 0
+        """The obstacles of all files. One itself has to be opened if its mount is not known yet or may hinder it, or if its owner
+        changes."""
+        found, is_root = {}, os.geteuid() == 0
         with Opener() as opener:
             for path, seen in look.files.items():
                 fault = None if is_root else self.of_right(path, seen)
                 if not self.way.is_undo:  # Which takes back the other files.
                     fault = fault or live.fixed(seen)
-                if fault is None and self.has_more(seen, self.way.end(path)):
+                if fault is None and (seen.beside[1] not in self.free or seen.record.ids() != self.way.end(path).ids()):
                     fault = self.of_system(opener, path, seen)
                 if fault is not None:
                     found[path] = fault

@@ -4,9 +4,11 @@ from __future__ import annotations
 
 import re
 from collections import Counter
-from typing import Callable, Dict, Iterable, List, NamedTuple, Optional, Tuple, Union
+from functools import lru_cache
+from itertools import takewhile
+from typing import Callable, Iterable, List, NamedTuple, Optional, Tuple, Union
 
-from ..base.messages import counted
+from ..base.messages import Failure, counted
 from ..base.names import SAFE, live_path, number_of, read_name, shell_word, shown, sorting_key, write_user
 from ..model.entries import USER, head_lines, lists_of, named, read_record
 from ..model.people import People
@@ -21,12 +23,8 @@ TEXT_LIMIT = 60 << 20  # A run of the program takes 64 MiB, of which others have
 NO_ID = 0xFFFFFFFF  # chown(2) takes it for "stays".
 
 
-class Refused(Exception):
+class Refused(Failure):
     """Why a line is refused, as a message of the program without the tool's name."""
-
-    def __init__(self, text: bytes) -> None:
-        super().__init__(text)
-        self.text = text
 
 
 class ChownLine(NamedTuple):
@@ -39,39 +37,28 @@ class ChownLine(NamedTuple):
 
 
 def restoring(session: Session, people: People, unit: Unit) -> Union[Unit, bytes]:
-    """The line of setfacl, with its text, that does what a line of chown or chgrp asks for; or the message of its
-    refusal."""
+    """The line of setfacl, with its text, that does what a line of chown or chgrp asks for; or the message of its refusal."""
     try:
         unit.lines[0].decode("utf-8")
+        line = read_line(unit, people)
+        changed = changed_files(session, line, ask_files(session, line))
     except UnicodeDecodeError:
         return unit  # The program says so.
-    try:
-        line = read_line(unit, people)
-        files = ask_files(session, line)
     except Refused as refused:
         is_of_line = refused.text.startswith(message_of(PROGRAM, b""))
         return refused.text if is_of_line else message_of(unit.words[0], refused.text)
-    changed = changed_files(session, line, files)
     text = write_records(changed, changed)
     if len(text) > TEXT_LIMIT:
         return message_of(unit.words[0], TOO_MANY_FILES)
     return Unit(unit.script, unit.number, RESTORE.split(b" "), [RESTORE, *text.split(b"\n")[:-1], b"."], True)
 
 
-# --- the words of a line
-
-
 def read_line(unit: Unit, people: People) -> ChownLine:
     """The words of a line; an option may be anywhere before --, and once."""
-    options, operands = [], []
-    is_ended = False
-    for word, written in zip(unit.words[1:], WORD.findall(unit.lines[0])[1:]):
-        if is_ended or word[:1] != b"-":
-            operands.append((word, written))
-        elif word == b"--":
-            is_ended = True
-        else:
-            options.append(word)
+    words = list(zip(unit.words, WORD.findall(unit.lines[0])))[1:]
+    end = unit.words.index(b"--") - 1 if b"--" in unit.words else len(words)
+    options = [word for word, _ in words[:end] if word[:1] == b"-"]
+    operands = [it for it in words[:end] if it[0][:1] != b"-"] + words[end + 1 :]
     if takes_text(unit.words) or len(options) > 1 or not OPTIONS[unit.tool()].issuperset(options) or len(operands) < 2:
         raise Refused(USAGE)
     ids = read_ids(unit.words[0], operands[0][0], people)
@@ -99,16 +86,12 @@ def read_id(word: bytes, rows: Iterable[Tuple[bytes, int]], fault: bytes) -> int
     return found
 
 
-# --- the files
-
-
 def ask_files(session: Session, line: ChownLine) -> Files:
     """The files of a line as they are now."""
     found: Files = {}
-    begin = LIST_ALL if line.is_recursive else LIST_NUMBERS
     place = 0
     for words in parts_of(line.files):
-        answer = session.ask(b" ".join([begin, *words]) + b"\n")
+        answer = session.ask(b" ".join([LIST_ALL if line.is_recursive else LIST_NUMBERS, *words]) + b"\n")
         if answer.messages:
             raise Refused(fault_of(answer.messages[0], place))
         found.update(read_listing(answer.output.read()))
@@ -127,25 +110,22 @@ def fault_of(message: bytes, place: int) -> bytes:
 
 
 def changed_files(session: Session, line: ChownLine, files: Files) -> Files:
-    """The files whose records change, with the new ones; files with one record are looked at once."""
-    known: Dict[Tuple[bytes, bool], File] = {}
+    """The files whose records change, with the new ones."""
+    @lru_cache(maxsize=None)
+    def changed(body: bytes, keeps_flags: bool) -> File:
+        record = read_record(body)
+        owner, group = (now if new is None else b"%d" % new
+                        for now, new in ((record.owner, line.uid), (record.group, line.gid)))
+        flags = record.flags if keeps_flags else flags_after_chown(record.flags, record.group_class())
+        return File(False, head_lines(owner, group, flags) + lists_of(body))
+
     found: Files = {}
     for path, file in files.items():
         is_unknown = not file.is_directory and not line.is_recursive and b"s" in read_record(file.body).flags
-        keeps_flags = file.is_directory or is_unknown and asks_as_directory(session, path)
-        new = known.get((file.body, keeps_flags))
-        if new is None:
-            new = known[file.body, keeps_flags] = File(False, new_body(file.body, keeps_flags, line))
+        new = changed(file.body, file.is_directory or is_unknown and asks_as_directory(session, path))
         if new.body != file.body:
             found[path] = new
     return found
-
-
-def new_body(body: bytes, keeps_flags: bool, line: ChownLine) -> bytes:
-    record = read_record(body)
-    owner, group = (now if new is None else b"%d" % new
-                    for now, new in ((record.owner, line.uid), (record.group, line.gid)))
-    return head_lines(owner, group, record.flags if keeps_flags else flags_after_chown(record.flags, record.group_class())) + lists_of(body)
 
 
 # --- what a user who is removed leaves
@@ -195,18 +175,9 @@ def comments(left: Left) -> List[bytes]:
     """The lines of by_hand, all of them comments: who owns the files next is for a person to decide."""
     if not left.owned:
         return []
-    top = shell_word(live_path(folder_of(left.owned)))
-    owned = counted(len(left.owned), "file")
-    return [b"# %s (uid %d) still owns %s. Put the new owner for NEWOWNER:" % (shown(left.name), left.uid, owned),
-            b"# chown -R -h --from=%d NEWOWNER -- %s" % (left.uid, top)]
-
-
-def folder_of(paths: List[bytes]) -> bytes:
-    """The folder that all of them are in, or the one path; its name has no character that ends or hides a line."""
-    first, last = paths[0].split(b"/"), paths[-1].split(b"/")
-    same = []
-    for one, other in zip(first, last):
-        if one != other or not SAFE.match(one):
-            break
-        same.append(one)
-    return b"/".join(same)
+    names = (path.split(b"/") for path in (left.owned[0], left.owned[-1]))
+    # The directory that all of them are in, or the one path; its name has no character that ends or hides a line.
+    top = [name for name, _ in takewhile(lambda it: it[0] == it[1] and SAFE.match(it[0]), zip(*names))]
+    return [b"# %s (uid %d) still owns %s. Put the new owner for NEWOWNER:" % (
+                shown(left.name), left.uid, counted(len(left.owned), "file")),
+            b"# chown -R -h --from=%d NEWOWNER -- %s" % (left.uid, shell_word(live_path(b"/".join(top))))]

@@ -3,17 +3,16 @@
 Of the names of links a line can touch, or look at, those that are one of its words and, where it goes to whole
 subtrees, those below one; any word is taken for a path, and so is the name in each record of its text. After a line
 that edits these names are asked for. What one name got the others get before a line can touch them or look at them, and
-at the end. """
+at the end."""
 from __future__ import annotations
 
 import re
-from bisect import bisect_left
 from itertools import takewhile
 from typing import Dict, List, Optional, Set
 
-from ..base.names import path_word, read_path, sorting_key
+from ..base.names import path_word, places_below, read_path, sorting_key
 from ..model.entries import lists_of, read_record
-from ..model.records import File, Files, list_all, read_listing, write_record
+from ..model.records import File, Files, list_all, read_listing, write_records
 from ..program.protocol import LIST_NUMBERS, RESTORE, SET_LIST
 from ..program.scripts import Unit
 from ..program.session import Session, parts_of
@@ -25,7 +24,7 @@ RECURSIVE = re.compile(rb"(?:%s)\Z|-[^-%s]*[%s]" % (
     b"|".join(sorted(name for name in DEEP_NAMES if len(name) > 2)),
     letters_of({name for tool in WITH_FILES for name in VALUES[tool]}), letters_of(DEEP_NAMES)))
 RECORD = re.compile(rb"\s*#\s*file: ?(.*)", re.DOTALL)  # The first line of a record of a restore.
-FEW_NAMES = 8  # So many are asked for one by one where a line of them is refused.
+FEW_NAMES = 8  # That are asked for one by one if a line of them is refused.
 LONGEST_LIST = 4_000  # Bytes of a list in a line, before its names.
 ROOM_FOR_NAMES = 1 << 24  # Bytes of questions by names in a session; after them a directory is listed, by a short line.
 
@@ -41,19 +40,10 @@ class Links:
                 self.places.setdefault(path, []).append(place)
         self.known = {path: files[path].body for path in self.places}  # The lines of each record, as they were alike.
         self.present = dict(self.known)  # The same as they are now, of names that are there.
-        self.late: Dict[bytes,
-                        bytes] = {}  # Names whose present record the program does not have yet, with what it has.
+        self.late: Dict[bytes, bytes] = {}  # Names whose present record the program does not have yet, with what it has.
         self.open: Set[int] = set()  # The places of sets of which a line can have changed a name.
         self.paths = sorted(self.places, key=sorting_key)
-        self.keys = [sorting_key(path) for path in self.paths]
         self.asked = 0  # Bytes of questions by names so far.
-
-    def below(self, path: bytes) -> List[bytes]:
-        """The names below a directory."""
-        if not path:
-            return self.paths
-        key = sorting_key(path)
-        return self.paths[bisect_left(self.keys, key + b"\0") : bisect_left(self.keys, key + b"\1")]
 
     def touched(self, unit: Unit) -> Set[bytes]:
         """The names that a line can touch or look at."""
@@ -62,7 +52,7 @@ class Links:
         named = paths_in(unit)
         found = {path for path in named if path in self.places}
         if any(map(RECURSIVE.match, unit.words[1:])):
-            found.update(*map(self.below, named))
+            found.update(*(self.paths[slice(*places_below(self.paths, path))] for path in named))
         return found
 
     def before(self, session: Session, unit: Unit) -> None:
@@ -79,50 +69,33 @@ class Links:
         by_list: Dict[bytes, List[bytes]] = {}
         for path in sorted(paths, key=sorting_key):
             by_list.setdefault(list_to_set(self.late.pop(path), self.known[path]), []).append(path)
-        alone = by_list.pop(b"", [])
+        alone = [path for entries, names in by_list.items() if not entries or len(names) < FEW_NAMES for path in names]
         for entries, names in by_list.items():
-            if len(names) < FEW_NAMES:
-                alone += names
-            else:
-                self.set_list(session, entries, names)
+            for part in parts_of(names, word_of=path_word) if entries and len(names) >= FEW_NAMES else ():
+                session.ask_accepted(b" ".join([SET_LIST % entries, *map(path_word, part)]))
         if alone:
-            records = b"".join([write_record(path, File(False, self.known[path])) for path in alone])
+            records = write_records({path: File(False, self.known[path]) for path in alone}, alone)
             session.ask_accepted(RESTORE + b"\n" + records + b".")
-
-    def set_list(self, session: Session, entries: bytes, names: List[bytes]) -> None:
-        head = SET_LIST % entries
-        for part in parts_of(names, word_of=path_word):
-            session.ask_accepted(b" ".join([head, *map(path_word, part)]))
 
     def follow(self, session: Session, unit: Unit) -> Optional[List[bytes]]:
         """After an edit: each name of a file has what one of them got. Where two names of a file got different lists,
         nothing more is done, and the names are returned."""
-        self.look(session, self.touched(unit))
+        touched = sorted(self.touched(unit), key=sorting_key)
+        for path in touched:
+            self.open.update(self.places[path])
+            self.present.pop(path, None)
+        self.present.update(self.ask(session, touched))
         for place in sorted(self.open):
             self.sets[place] = names = [path for path in self.sets[place] if path in self.present]
             changed = [path for path in names if self.present[path] != self.known[path]]
             if len({self.present[path] for path in changed}) > 1:
                 return changed
             self.open.discard(place)
-            if changed:
-                self.make_alike(names, self.present[changed[0]])
+            for path in names if changed else ():
+                if self.present[path] != self.present[changed[0]]:
+                    self.late.setdefault(path, self.present[path])
+                self.present[path] = self.known[path] = self.present[changed[0]]
         return None
-
-    def make_alike(self, names: List[bytes], body: bytes) -> None:
-        for path in names:
-            if self.present[path] != body:
-                self.late.setdefault(path, self.present[path])
-            self.present[path] = self.known[path] = body
-
-    def look(self, session: Session, names: Set[bytes]) -> None:
-        """Asks for the present records of names that a line can have changed; some may not be there any more."""
-        found = self.ask(session, sorted(names, key=sorting_key))
-        for path in names:
-            self.open.update(self.places[path])
-            if path in found:
-                self.present[path] = found[path]
-            else:
-                self.present.pop(path, None)
 
     def ask(self, session: Session, paths: List[bytes]) -> Dict[bytes, bytes]:
         """The lines of the records of these names, without those that are not there any more."""

@@ -1,52 +1,57 @@
-"""Users who are named by edits and gain nothing by them along paths, since a directory above is closed to them."""
+"""Users who are named by edits and gain nothing by them along paths, since a directory above is closed to them; and the line
+of a script that opens it, which is one of some that the program tries."""
 from __future__ import annotations
 
 from collections import Counter
+from dataclasses import dataclass, field
 from heapq import nsmallest
-from typing import Dict, FrozenSet, List, NamedTuple, Optional, Set, Tuple
+from typing import Dict, Iterator, List, NamedTuple, Optional, Set, Tuple
 
 from ..base.messages import counted
-from ..base.names import file_name, file_word, parent_of, path_word, plain_word, sorting_key, way_to, write_user
-from ..model.entries import GROUP, USER, Entries, Entry, read_record
-from ..model.entries import named as named_in
+from ..base.names import (
+    PLAIN_SHELL_WORD, file_name, file_word, parent_of, path_word, plain_word, script_word, sorting_key, way_to, write_user,
+)
+from ..base.user_tools import User
+from ..model.entries import GROUP, OWNER_KEY, USER, Entries, Entry, entries_of, named, read_record
 from ..model.label_answers import PeopleTexts, Vectors, ask_vectors
-from ..model.people import People, groups_by_user
-from ..model.records import Files
-from ..model.rules_of_lists import HAS_SEARCH, NOTHING
+from ..model.people import Group, People, groups_by_user, user_word
+from ..model.records import Files, write_records
+from ..model.rules_of_lists import HAS_SEARCH, NOTHING, grants_search
+from ..program.protocol import ENTRIES_OF, RESTORE
 from ..program.session import LINE_ROOM, Session
-from .opening import Opening, ask_openings
 
-MOST_DIRECTORIES = 8  # So many at most are opened by one line.
+MOST_DIRECTORIES = 8  # That one line opens.
+AT_ONCE = 1_000  # Lines that are asked.
 Naming = Dict[bytes, Optional[int]]  # Users who are named; the group where it is by its entry alone.
 # Numbers of files: by their record before, or nothing, and after, and their directory.
 Counts = Dict[Tuple[bytes, bytes, bytes], int]
 
 
-class Side(NamedTuple):
-    """One time, before the edits or after them."""
-
-    files: Files
-    people: People
-
-
 class NoGain(NamedTuple):
     """A user, with the number of files that would grant more, all of them behind one directory that is closed."""
 
-    user: bytes
+    user: bytes  # As in the index.
+    row: User
+    group: Optional[Group]  # If the entry of a group alone names the user.
     files: int
     directory: bytes  # As a person reads it: the highest that is closed.
-    entries: Entries  # Of that directory: those that decide on the user.
-    edit: bytes  # The line that opens it; empty where the program does not say so.
-    opened: int  # Directories that the line opens.
+    paths: List[bytes]  # Directories that the line opens, of which it is the first.
     closed: int  # Directories below that stay closed then.
+    entries: Entries = ()  # Of that directory: those that decide on the user.
+    edit: bytes = b""  # The line; empty if nothing that was tried opens it.
 
     def text(self) -> bytes:
-        which = self.directory + (b" and " + below(self.opened - 1) if self.opened > 1 else b"")
-        verb = b" grant" if self.opened > 1 else b" grants"
+        opened = len(self.paths)
+        which = self.directory + (b" and " + below(opened - 1) + b" grant" if opened > 1 else b" grants")
         entries = b" no search permission (" + b", ".join(map(shown_entry, self.entries)) + b")"
-        none = b" grants none" if self.closed == 1 else b" grant none"
-        rest = b", and " + below(self.closed) + none if self.closed else b""
-        return which + verb + entries + rest + (b"; add to the edits: " + self.edit if self.edit else b"")
+        rest = b", and " + below(self.closed) + (b" grants none" if self.closed == 1 else b" grant none") if self.closed else b""
+        return which + entries + rest + (b"; add to the edits: " + self.edit if self.edit else b"")
+
+    def question(self, path: bytes) -> bytes:
+        """What decides on the user on a directory."""
+        asked = user_word([self.row], self.row.name)
+        assert asked is not None
+        return b" ".join([ENTRIES_OF, asked, path_word(path)])
 
 
 def below(number: int) -> bytes:
@@ -57,19 +62,16 @@ def shown_entry(entry: Entry) -> bytes:
     return entry.text(b", effective %s")
 
 
-def named_ids(old: bytes, new: bytes) -> Tuple[FrozenSet[int], FrozenSet[int]]:
-    """The ids of users and groups that a record names otherwise than before: by an entry, as the owner or the owning
-    group."""
-    before, after = read_record(old) if old else None, read_record(new)
-    known = {} if before is None else named_in(before.access)
-    ids: Dict[bytes, Set[int]] = {USER: set(), GROUP: set()}
-    for key, entry in named_in(after.access).items():
-        if key not in known or known[key].permissions != entry.permissions:
-            ids[key[0]].add(int(key[1]))
-    for kind, place in ((USER, 0), (GROUP, 1)):
-        if before is None or before[place] != after[place]:
-            ids[kind].add(int(after[:2][place]))
-    return frozenset(ids[USER]), frozenset(ids[GROUP])
+# --- who is named
+
+
+def names_in(body: bytes) -> Set[Tuple[bytes, int, bytes]]:
+    """The ids that a record names: as the owner and the owning group, and by entries with these permissions."""
+    if not body:
+        return set()
+    record = read_record(body)
+    entries = {(tag, int(number), entry.permissions) for (tag, number), entry in named(record.access).items()}
+    return {(USER, int(record.owner), b""), (GROUP, int(record.group), b""), *entries}
 
 
 class Named:
@@ -80,32 +82,30 @@ class Named:
         self.users = {write_user(user.name): user for user in new.users if write_user(user.name) not in left_out}
         self.joined: Naming = {name: None for name, user in self.users.items()
                                if user.name in before and groups[user.name] - before[user.name]}
-        self.of_uid: Dict[int, Naming] = {}
-        self.of_gid: Dict[int, Naming] = {}
+        self.of_id: Dict[Tuple[bytes, int], Naming] = {}
         for name, user in self.users.items():
-            self.of_uid.setdefault(user.uid, {})[name] = None
+            self.of_id.setdefault((USER, user.uid), {})[name] = None
             for gid in groups[user.name]:
-                self.of_gid.setdefault(gid, {})[name] = gid
+                self.of_id.setdefault((GROUP, gid), {})[name] = gid
         self.known: Dict[Tuple[bytes, bytes], Naming] = {}
 
     def by(self, old: bytes, new: bytes) -> Naming:
         """Those of a record; of several groups the first."""
         if (old, new) not in self.known:
-            uids, gids = named_ids(old, new)
             found: Naming = {}
-            for gid in sorted(gids, reverse=True):
-                found.update(self.of_gid.get(gid, {}))
-            for uid in uids:
-                found.update(self.of_uid.get(uid, {}))
+            for tag, number, _ in sorted(names_in(new) - names_in(old), key=lambda it: (it[0] == USER, -it[1])):
+                found.update(self.of_id.get((tag, number), {}))
             self.known[old, new] = {**found, **self.joined}
         return self.known[old, new]
 
     def counts(self, old: Files, new: Files) -> Counts:
         """The files whose records name somebody."""
-        pairs = ((old[path].body if path in old else b"", file.body, parent_of(path))
-                 for path, file in new.items() if path)
-        counts = Counter(it for it in pairs if it[0] != it[1] or self.joined)
+        counts = Counter((before, file.body, parent_of(path)) for path, file in new.items() if path
+                         for before in [old[path].body if path in old else b""] if before != file.body or self.joined)
         return {it: number for it, number in counts.items() if self.by(*it[:2])}
+
+
+# --- what is closed to them
 
 
 class Granted:
@@ -119,20 +119,13 @@ class Granted:
         return self.of_body[body][self.places[user]] if body and user in self.places else NOTHING
 
 
+@dataclass
 class Behind:
     """Files that would grant a user more, behind closed directories, of which the highest is the first."""
 
-    def __init__(self) -> None:
-        self.files = 0
-        self.gid: Optional[int] = None
-        self.closed: List[bytes] = []
-
-    def add(self, number: int, gid: Optional[int]) -> None:
-        if not self.files:
-            self.gid = gid
-        elif gid is None:
-            self.gid = None
-        self.files += number
+    files: int = 0
+    gid: Optional[int] = None
+    closed: List[bytes] = field(default_factory=list)
 
 
 class Ways:
@@ -141,12 +134,12 @@ class Ways:
 
     def __init__(self, files: Files, granted: Granted, users: Set[bytes]) -> None:
         self.files, self.granted, self.users = files, granted, users
-        self.closed_to: Dict[bytes, Set[bytes]] = {b"": set()}  # By record.
+        self.closed_to: Dict[bytes, Set[bytes]] = {b"": set()}  # By record; one that is not recorded asks for nothing.
         self.lowest: Dict[bytes, Optional[bytes]] = {}
         self.behind: Dict[bytes, Dict[bytes, Optional[Behind]]] = {user: {} for user in users}
 
     def closes(self, path: bytes) -> Set[bytes]:
-        """Those of the users to whom a directory is closed; one that is not recorded asks for nothing."""
+        """Those of the users to whom a directory is closed."""
         body = self.files[path].body if path in self.files else b""
         if body not in self.closed_to:
             self.closed_to[body] = {user for user in self.users if not HAS_SEARCH[self.granted.to(user, body)]}
@@ -155,8 +148,7 @@ class Ways:
     def lowest_to(self, directory: bytes) -> Optional[bytes]:
         """The lowest directory on the way that is closed to some of the users; None if none is."""
         for it in way_to(directory, self.lowest):
-            above = self.lowest[parent_of(it)] if it else None
-            self.lowest[it] = it if self.closes(it) else above
+            self.lowest[it] = it if self.closes(it) else self.lowest[parent_of(it)] if it else None
         return self.lowest[directory]
 
     def behind_to(self, user: bytes, directory: bytes) -> Optional[Behind]:
@@ -175,34 +167,21 @@ class Ways:
         return found
 
 
-def pairs_of(counts: Counts) -> Set[Tuple[bytes, bytes]]:
-    return {(old, new) for old, new, _ in counts}
-
-
-def find_behind(counts: Counts, named: Named, files: Files, before: Granted,
+def find_behind(counts: Counts, named_by: Named, files: Files, before: Granted,
                 after: Granted) -> Dict[Tuple[bytes, bytes], Behind]:
     """By user and highest directory that is closed."""
-    gaining = {(old, new): {user: gid for user, gid in named.by(old, new).items()
-                            if after.to(user, new) & ~before.to(user, old)} for old, new in pairs_of(counts)}
+    gaining = {(old, new): {user: gid for user, gid in named_by.by(old, new).items()
+                            if after.to(user, new) & ~before.to(user, old)} for old, new, _ in counts}
     ways = Ways(files, after, {user for users in gaining.values() for user in users})
     found: Dict[Tuple[bytes, bytes], Behind] = {}
     for (old, new, directory), number in counts.items():
-        its: Naming = {} if ways.lowest_to(directory) is None else gaining[old, new]
-        for user, gid in its.items():
+        for user, gid in gaining[old, new].items() if ways.lowest_to(directory) is not None else ():
             behind = ways.behind_to(user, directory)
             if behind is not None:
                 found[user, behind.closed[0]] = behind
-                behind.add(number, gid)
+                behind.gid = gid if not behind.files or gid is None else behind.gid
+                behind.files += number
     return found
-
-
-def texts_with(texts: PeopleTexts, users: Set[bytes]) -> PeopleTexts:
-    """The rows of these users alone, since what one may do depends on no other user's row; all rows if lines change users,
-    which name others too."""
-    if texts.lines:
-        return texts
-    rows = [row for row in texts.passwd.split(b"\n") if row.partition(b":")[0] in users]
-    return texts._replace(passwd=b"".join(row + b"\n" for row in rows))
 
 
 def shown_directories(paths: List[bytes]) -> List[bytes]:
@@ -214,36 +193,101 @@ def shown_directories(paths: List[bytes]) -> List[bytes]:
     return paths[:1] if sizes[0] < LINE_ROOM else []
 
 
-def find(session: Session, program: str, texts: PeopleTexts, old: Side, new: Side, left_out: Set[bytes],
-         is_whole: bool) -> List[NoGain]:
-    """By users in their order, and by closed directories in path order; the session is as it is after the edits. Where it
-    is whole, paths are those from the root of the file system."""
-    named = Named(old.people, new.people, left_out)
-    counts = named.counts(old.files, new.files)
+def find(session: Session, program: str, texts: PeopleTexts, files: Tuple[Files, Files], people: Tuple[People, People],
+         left_out: Set[bytes], is_whole: bool) -> List[NoGain]:
+    """By users in their order, and by closed directories in path order; of files and people before the edits and after them, as
+    the session is. Where it is whole, paths are those from the root of the file system."""
+    named_by, new = Named(*people, left_out), files[1]
+    counts = named_by.counts(*files)
     if not counts:
         return []
     above: Dict[bytes, None] = {}
     for _, _, directory in counts:
         above.update(dict.fromkeys(way_to(directory, above)))
-    pairs = pairs_of(counts)
-    bodies = {new.files[it].body for it in above if it in new.files}.union(*pairs) - {b""}
-    users = {named.users[user].name for pair in pairs for user in named.by(*pair)}
-    before, after = map(Granted, ask_vectors(program, texts_with(texts, users), list(bodies)))
-    behind = find_behind(counts, named, new.files, before, after)
-    groups = {group.gid: group for group in reversed(new.people.groups)}
-    openings = []
-    for user, highest in sorted(behind, key=lambda key: (after.places[key[0]], sorting_key(key[1]))):
-        it = behind[user, highest]
-        paths = nsmallest(MOST_DIRECTORIES + 1, it.closed, key=sorting_key)
-        group = None if it.gid is None else groups.get(it.gid)
-        openings.append(Opening(user, named.users[user], group, it.files, len(it.closed), shown_directories(paths)))
-    return [NoGain(it.user, it.files, file_name(it.paths[0], is_whole), it.entries, line_of(it, is_whole), len(it.paths),
-                   it.closed - len(it.paths))
-            for it in ask_openings(session, [it for it in openings if it.paths], new.files)]
+    bodies = {new[it].body for it in above if it in new}.union(*(it[:2] for it in counts)) - {b""}
+    if not texts.lines:  # Which name other users too. What one may do depends on no other user's row.
+        users = {named_by.users[user].name for it in counts for user in named_by.by(*it[:2])}
+        rows = [row + b"\n" for row in texts.passwd.split(b"\n") if row.partition(b":")[0] in users]
+        texts = texts._replace(passwd=b"".join(rows))
+    before, after = map(Granted, ask_vectors(program, texts, list(bodies)))
+    behind = find_behind(counts, named_by, new, before, after)
+    groups = {group.gid: group for group in reversed(people[1].groups)}
+    found = []
+    for user, highest in sorted(behind, key=lambda it: (after.places[it[0]], sorting_key(it[1]))):
+        its = behind[user, highest]
+        paths = shown_directories(nsmallest(MOST_DIRECTORIES + 1, its.closed, key=sorting_key))
+        group = None if its.gid is None else groups.get(its.gid)
+        if paths:
+            found.append(NoGain(user, named_by.users[user], group, its.files, file_name(paths[0], is_whole), paths,
+                                len(its.closed) - len(paths)))
+    return ask_edits(session, found, new, is_whole)
 
 
-def line_of(it: Opening, is_whole: bool) -> bytes:
-    """The line that opens directories; empty where nothing that was tried opens them."""
-    if not it.edit:
-        return b""
-    return b" ".join([b"setfacl -n -m " + plain_word(it.edit), *(file_word(path, is_whole) for path in it.paths)])
+# --- what opens it
+
+
+def perms(letters: bytes) -> bytes:
+    return bytes(letter for letter in b"rwx" if letter in letters)
+
+
+def granted_by(entries: Entries) -> bytes:
+    return perms(b"".join(it.effective for it in entries))
+
+
+def id_word(name: bytes, number: int) -> bytes:
+    """What names a user or a group in an entry: the id where the name is not plain."""
+    is_plain = PLAIN_SHELL_WORD.match(name) and not name.isdigit() and not set(name) & set(b":,")
+    return name if is_plain else b"%d" % number
+
+
+def edits_to_try(entries: Entries, body: bytes, user: User, group: Optional[Group]) -> List[bytes]:
+    """What may give search on a directory and take nothing from the user, on whom entries decide so far: the mask alone,
+    an entry of the group or the user, and both. Where the mask is empty, entries count again once it is not."""
+    granted, kind, record = granted_by(entries), entries[0].key, read_record(body)
+    if kind == OWNER_KEY:
+        return [b"u::" + perms(granted + b"x")]
+    known = named(record.access)
+    own = known.get((USER, b"%d" % user.uid))
+    begin, present = b"u:" + id_word(user.name, user.uid) + b":", granted + (b"" if own is None else own.permissions)
+    if own is None and group is not None:
+        its = known.get((GROUP, b"%d" % group.gid))
+        is_owning = int(record.group) == group.gid
+        begin = b"g::" if is_owning else b"g:" + id_word(group.name, group.gid) + b":"
+        present = record.permissions(GROUP) if is_owning else b"" if its is None else its.permissions
+        present += b"" if kind[0] == GROUP else granted  # Which its other groups still grant.
+    entry, mask = begin + perms(present + b"x"), b"m::" + perms(record.group_class() + granted + b"x")
+    return [mask] * (own is not None or not record.has_empty_mask()) + [entry, entry + b"," + mask]
+
+
+def ask_entries(session: Session, lines: List[bytes]) -> Iterator[Entries]:
+    """The entries that decide, by lines that ask for those of a user on a directory; a refused one beside them is passed
+    over."""
+    for start in range(0, len(lines), AT_ONCE):
+        answer = session.ask(b"\n".join(lines[start : start + AT_ONCE]) + b"\n").output.read()
+        yield from map(entries_of, answer.split(b"\n\n")[:-1])
+
+
+def ask_edits(session: Session, found: List[NoGain], files: Files, is_whole: bool) -> List[NoGain]:
+    """The same with the entries that decide so far, and the first edit that opens each directory; the first directory alone
+    where another one needs another edit. The program gets the records back after each trial."""
+    asked = [(it, path) for it in found for path in it.paths]
+    before = list(ask_entries(session, [it.question(path) for it, path in asked]))
+    tries: List[Tuple[int, bytes, bytes]] = []  # The place of the directory, the edit, and the lines.
+    for place, ((it, path), entries) in enumerate(zip(asked, before)):
+        back = RESTORE + b"\n" + write_records(files, [path]) + b"."
+        for edit in edits_to_try(entries, files[path].body, it.row, it.group):
+            line = b"setfacl -n -m " + script_word(edit) + b" -- " + path_word(path)
+            tries.append((place, edit, b"\n".join([line, it.question(path), back])))
+    edits = [b""] * len(asked)
+    for (place, edit, _), entries in zip(tries, ask_entries(session, [lines for _, _, lines in tries])):
+        if not edits[place] and grants_search(entries) and set(granted_by(before[place])) <= set(granted_by(entries)):
+            edits[place] = edit
+    opened, start = [], 0
+    for it in found:
+        its = edits[start : start + len(it.paths)]
+        paths = it.paths if len(set(its)) == 1 else it.paths[:1]
+        line = b" ".join([b"setfacl -n -m", plain_word(its[0]), *(file_word(path, is_whole) for path in paths)])
+        opened.append(it._replace(paths=paths, closed=it.closed + len(it.paths) - len(paths), entries=before[start],
+                                  edit=line if its[0] else b""))
+        start += len(its)
+    return opened

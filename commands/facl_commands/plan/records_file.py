@@ -1,23 +1,20 @@
 """The file `files` of a plan, as facl-plan writes it: the lists of records are bytes that the program prints."""
 from __future__ import annotations
 
-import json
 import re
 from typing import Dict, Iterable, List, Tuple
 
 from ..base.acl_bytes import Record
 from ..base.messages import Failure
-from ..model.entries import NOTHING, entries_of, flag_digit, head_lines, lists_of, read_record
-from ..model.records import ChangedPaths, Files, write_records
+from ..model.entries import NOTHING, flag_digit, head_lines, lists_of, read_record
+from ..model.records import Files, write_records
 from ..model.snapshot import Snapshot
 from ..planned import differences
-from ..planned.plan_files import NOWHERE, are_valid, fields_of, rows_text
+from ..planned.plan_files import NOWHERE, are_valid, fields_of, text_of
 from ..program.protocol import ATTRIBUTE_LINES, ATTRIBUTES_OF, FILE_HEAD
 from ..program.session import session_over
 
-ATTRIBUTES = re.compile(ATTRIBUTE_LINES)
 PORTION = 10_000  # Questions that are sent at once.
-HEAD_OF_ROOT = head_lines(b"0", b"0", NOTHING)
 OTHER_BYTES = (b"nothing was written: the bytes of an ACL are not those of its entries: somebody else can have changed what "
                b"the program was given, or the program is of another version")
 
@@ -27,51 +24,41 @@ def ask_records(program: str, bodies: Iterable[bytes]) -> Dict[bytes, Record]:
     known = dict.fromkeys(bodies)
     lists = list(dict.fromkeys(map(lists_of, known)))
     # Directories that have these lists; their names are their numbers.
-    dump = b"".join(FILE_HEAD + b"%d/\n" % number + HEAD_OF_ROOT + text + b"\n" for number, text in enumerate(lists))
+    head = head_lines(b"0", b"0", NOTHING)
+    dump = b"".join(FILE_HEAD + b"%d/\n" % number + head + text + b"\n" for number, text in enumerate(lists))
     found: List[Tuple[bytes, bytes]] = []
     with session_over(program, b"", b"", dump) as session:
         for place in range(0, len(lists), PORTION):
-            lines = b"\n".join(ATTRIBUTES_OF % number for number in range(place, min(place + PORTION, len(lists))))
-            found += ATTRIBUTES.findall(session.ask_accepted(lines).read())
+            lines = b"\n".join(ATTRIBUTES_OF % number for number in range(len(lists))[place : place + PORTION])
+            found += re.findall(ATTRIBUTE_LINES, session.ask_accepted(lines).read())
     if len(found) != len(lists):
         raise Failure(OTHER_BYTES)
-    both = {text: checked(text, *its) for text, its in zip(lists, found)}
+    both = dict(zip(lists, found))
     return {body: record_of(body, *both[lists_of(body)]) for body in known}
 
 
-def checked(text: bytes, access: bytes, default: bytes) -> Tuple[bytes, bytes]:
-    """The bytes of both lists, which have to be valid, and of the entries that a person reads."""
-    record = Record(0, 0, 0, bytes.fromhex(access.decode()), bytes.fromhex(default.decode()))
-    lists = ((entries_of(text), record.access), (entries_of(text, is_default=True), record.default))
-    if not are_valid(record) or any([it.text() for it in entries] != differences.entry_lines(data) for entries, data in lists):
-        raise Failure(OTHER_BYTES)
-    return record.access, record.default
-
-
 def record_of(body: bytes, access: bytes, default: bytes) -> Record:
-    """The record that the body of a listing is, with the bytes of its lists."""
+    """The record that the body of a listing is, with the bytes of both lists, which have to be valid, and of the entries that a
+    person reads."""
     try:
         read = read_record(body)
-        return Record(int(read.owner), int(read.group), flag_digit(read.flags) << 9, access, default)
+        lists = (bytes.fromhex(text.decode()) for text in (access, default))
+        record = Record(int(read.owner), int(read.group), flag_digit(read.flags) << 9, *lists)
     except ValueError as error:
         raise Failure(OTHER_BYTES) from error
+    if not are_valid(record) or any([it.text() for it in entries] != differences.entry_lines(data)
+                                    for entries, data in zip((read.access, read.default), (record.access, record.default))):
+        raise Failure(OTHER_BYTES)
+    return record
 
 
-def work_text(program: str, snapshot: Snapshot, paths: List[bytes], old: Files, new: Files) -> bytes:
-    """The file `files` of a plan: an object with the records, each once, and the files, by the numbers of theirs."""
-    before, after = ([files[path] for path in paths] for files in (old, new))
-    records = ask_records(program, [it.body for both in zip(before, after) for it in both])
+def file_texts(program: str, snapshot: Snapshot, paths: List[bytes], old: Files, new: Files) -> Dict[bytes, bytes]:
+    """The files of a plan that have the files that change: their records before and after; and `files`, an object with the
+    records, each once, and the files, by the numbers of theirs."""
+    records = ask_records(program, [files[path].body for path in paths for files in (old, new)])
     numbers = {body: number for number, body in enumerate(records)}
     same = {path: number for number, names in enumerate(snapshot.links, 1) for path in names}
-    identity_of, same_of = snapshot.inodes.get, same.get
-    rows = [(one.is_directory, *identity_of(path, NOWHERE), same_of(path, 0), numbers[one.body], numbers[other.body])
-            for path, one, other in zip(paths, before, after)]
-    head = json.dumps({"boot": snapshot.boot, "records": list(map(fields_of, records.values()))}, separators=(",", ":"))
-    return b'%s,"files":%s}\n' % (head[:-1].encode(), rows_text(paths, rows, 7).encode())
-
-
-def file_texts(program: str, snapshot: Snapshot, changes: ChangedPaths, old: Files, new: Files) -> Dict[bytes, bytes]:
-    """The files of a plan that have the files that change: `files`, and their records before and after."""
-    paths = changes.changed
-    return {b"files": work_text(program, snapshot, paths, old, new), b"old": write_records(old, paths),
-            b"new": write_records(new, paths)}
+    rows = [(int(old[path].is_directory), *snapshot.inodes.get(path, NOWHERE), same.get(path, 0), numbers[old[path].body],
+             numbers[new[path].body]) for path in paths]
+    text = text_of(paths, rows, boot=snapshot.boot, records=list(map(fields_of, records.values())))
+    return {b"files": text, b"old": write_records(old, paths), b"new": write_records(new, paths)}

@@ -6,9 +6,9 @@ from typing import List, NamedTuple, Optional, Union
 
 from ..base.names import live_path
 from ..base.user_tools import PeopleChange
-from ..model import people, sources
 from ..model.everybody import ElseAnswers
-from ..model.records import Files, Listing, list_slices
+from ..model.people import People
+from ..model.records import Files
 from ..model.snapshot import Snapshot
 from ..program.answering import answer_unit
 from ..program.protocol import WARNING, is_refused
@@ -50,8 +50,7 @@ class Replay:
 
     def __init__(self, session: Session, snapshot: Snapshot, old: Files, answers: Optional[ElseAnswers] = None) -> None:
         self.session, self.answers = session, answers
-        self.links = Links(snapshot.links, old)
-        self.people = people.People(snapshot.passwd, snapshot.group)
+        self.links, self.people = Links(snapshot.links, old), People(snapshot.passwd, snapshot.group)
         self.asked: List[Asked] = []
         self.messages: List[Message] = []
         self.commands: List[PeopleChange] = []
@@ -79,21 +78,11 @@ class Replay:
         output = output if self.answers is None else self.answers.text(unit.form(), output)
         if output or unit.is_of(*QUESTIONS_WITH_EMPTY_ANSWERS) and is_taken:
             self.asked.append(Asked(unit, output))
-        if is_taken:
-            self.follow(done)
-
-    def follow(self, unit: Unit) -> None:
-        """What an accepted line means for other names of its files, and for the system's users."""
-        if unit.is_of(*CHANGES_OF_PEOPLE):
-            self.changes_of_people += unit.text()
-            self.commands += filter(None, [self.people.change(unit.words)])
-        elif unit.is_of(*EDITS):
-            names = self.links.follow(self.session, unit)
+        if is_taken and done.is_of(*CHANGES_OF_PEOPLE):
+            self.changes_of_people += done.text()
+            self.commands += filter(None, [self.people.change(done.words)])
+        elif is_taken and done.is_of(*EDITS):
+            names = self.links.follow(self.session, done)
             if names:
-                shown = b", ".join(map(live_path, names))
-                self.messages.append(Message(unit, b"names of one file get different ACLs: " + shown, is_final=True))
-
-
-def list_below(session: Session, tops: List[bytes]) -> Listing:
-    """The files as they are now, from those on that no recorded directory is above."""
-    return list_slices(sources.list_below(session, tops))
+                text = b"names of one file get different ACLs: " + b", ".join(map(live_path, names))
+                self.messages.append(Message(done, text, is_final=True))

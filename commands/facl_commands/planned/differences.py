@@ -1,21 +1,19 @@
 """What two records of a file do not have in common, in words, as facl-apply prints it."""
 from __future__ import annotations
 
-import contextlib
 import grp
 import os
 import pwd
-from typing import Callable, Iterator, List
+from functools import partial
+from typing import Any, Callable, Iterator, List, Sequence
 
 from ..base import acl_bytes
 from ..base.acl_bytes import Key, Record
 
 PARTS = (b"owner", b"group", b"flags", b"access ACL", b"default ACL")
-TAGS = {
-    acl_bytes.USER_OBJ: b"user", acl_bytes.USER: b"user", acl_bytes.GROUP_OBJ: b"group", acl_bytes.GROUP: b"group", acl_bytes.MASK: b"mask",
-    acl_bytes.OTHER: b"other",
-}
-ABSENT = -1
+TAGS = {acl_bytes.USER_OBJ: b"user", acl_bytes.USER: b"user", acl_bytes.GROUP_OBJ: b"group", acl_bytes.GROUP: b"group",
+        acl_bytes.MASK: b"mask", acl_bytes.OTHER: b"other"}
+ABSENT = -1  # As acl_bytes.changed has it.
 
 
 def parts(one: Record, other: Record) -> bytes:
@@ -23,19 +21,18 @@ def parts(one: Record, other: Record) -> bytes:
     return b", ".join(name for name, first, second in zip(PARTS, one, other) if first != second)
 
 
-def user_name(uid: int) -> bytes:
-    with contextlib.suppress(KeyError):
-        return os.fsencode(pwd.getpwuid(uid).pw_name)
-    return b"%d" % uid
+def name_of(look_up: Callable[[int], Sequence[Any]], number: int) -> bytes:
+    """The name in the row of a user or a group; the id if there is none."""
+    try:
+        return os.fsencode(look_up(number)[0])
+    except KeyError:
+        return b"%d" % number
 
 
-def group_name(gid: int) -> bytes:
-    with contextlib.suppress(KeyError):
-        return os.fsencode(grp.getgrgid(gid).gr_name)
-    return b"%d" % gid
+user_name, group_name = partial(name_of, pwd.getpwuid), partial(name_of, grp.getgrgid)
 
 
-def letters(bits: int, names: bytes) -> bytes:
+def letters(bits: int, names: bytes = b"rwx") -> bytes:
     """Letters, or a - for a bit that is not set; the last one is that of the lowest bit."""
     return bytes(name if bits >> place & 1 else ord("-") for name, place in zip(names, (2, 1, 0)))
 
@@ -46,7 +43,7 @@ def flags_text(flags: int) -> bytes:
 
 
 def permissions_text(permissions: int) -> bytes:
-    return b"none" if permissions == ABSENT else letters(permissions, b"rwx")
+    return b"none" if permissions == ABSENT else letters(permissions)
 
 
 def key_text(key: Key) -> bytes:
@@ -56,10 +53,10 @@ def key_text(key: Key) -> bytes:
     return TAGS[tag] + b":" + (b"" if name is None else name(number)) + b":"
 
 
-def entry_lines(data: bytes, head: bytes = b"") -> List[bytes]:
+def entry_lines(data: bytes) -> List[bytes]:
     """The entries of a list as getfacl(1) prints them with ids; none where there is no list."""
     entries = sorted(acl_bytes.entries_of(data).items()) if data else []
-    return [head + TAGS[tag] + (b":%d:" % number if tag in acl_bytes.NAMED else b"::") + permissions_text(permissions)
+    return [TAGS[tag] + (b":%d:" % number if tag in acl_bytes.NAMED else b"::") + letters(permissions)
             for (tag, number), permissions in entries]
 
 

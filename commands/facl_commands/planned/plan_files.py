@@ -13,7 +13,6 @@ from ..base.linux import Identity
 from ..base.messages import Failure
 from ..base.names import sorting_key
 
-ALL_FLAGS = 0o7000
 NOWHERE = Identity(0, 0, 0)  # Of a file of a snapshot without inodes.
 
 
@@ -30,6 +29,11 @@ class Work(NamedTuple):
     files: Dict[bytes, PlannedFile]  # By path, in path order.
 
 
+class Journal(NamedTuple):
+    boot: str
+    files: Dict[bytes, Identity]
+
+
 def are_valid(record: Record) -> bool:
     """Whether the lists of a record are lists; it may have no default list."""
     return acl_bytes.is_valid(record.access) and (record.default == b"" or acl_bytes.is_valid(record.default))
@@ -40,30 +44,27 @@ def fields_of(record: Record) -> List[object]:
     return [*record[:3], record.access.hex(), record.default.hex()]
 
 
+def number_of(field: object) -> int:
+    if not isinstance(field, int) or field < 0:
+        raise ValueError
+    return field
+
+
 def read_record(fields: List[object]) -> Record:
     """A record of a plan; ValueError or TypeError where it is none."""
     owner, group, flags, access, default = fields
     if not (isinstance(access, str) and isinstance(default, str)):
         raise TypeError
     record = Record(number_of(owner), number_of(group), number_of(flags), bytes.fromhex(access), bytes.fromhex(default))
-    if max(record.ids()) >= acl_bytes.NO_ID or record.flags & ~ALL_FLAGS or not are_valid(record):
+    if max(record.ids()) >= acl_bytes.NO_ID or record.flags & ~0o7000 or not are_valid(record):
         raise ValueError
     return record
 
 
-def number_of(field: object) -> int:
-    if not isinstance(field, int):
-        raise TypeError
-    if field < 0:
-        raise ValueError
-    return field
-
-
-def rows_text(paths: Iterable[bytes], numbers: Iterable[Sequence[int]], count: int) -> str:
-    """Rows of a path and so many numbers, as JSON."""
-    names = json.dumps([path.decode("latin-1") for path in paths], separators=("\n", ":"))[1:-1].split("\n")
-    form = "[%s" + ",%d" * count + "]"
-    return "[" + ",".join([form % (name, *row) for name, row in zip(names, numbers)]) + "]"
+def text_of(paths: Iterable[bytes], numbers: Iterable[Sequence[int]], **fields: object) -> bytes:
+    """An object of JSON that has some fields, and rows of a path and numbers."""
+    rows = [(path.decode("latin-1"), *row) for path, row in zip(paths, numbers)]
+    return json.dumps({**fields, "files": rows}, separators=(",", ":")).encode() + b"\n"
 
 
 def columns_of(rows: object, count: int) -> Tuple[List[bytes], List[Sequence[int]]]:
@@ -92,25 +93,20 @@ def as_written(name: bytes, by_whom: bytes) -> Iterator[None]:
 
 
 def read_work(name: bytes, text: bytes) -> Work:
-    """What work_text wrote; each path once, in path order."""
+    """What facl-plan wrote; each path once, in path order."""
     with as_written(name, b"facl plan wrote; make the plan again"):
         fields = json.loads(text)
         records = [read_record(row) for row in fields["records"]]
         paths, (kinds, devices, inodes, births, sames, olds, news) = columns_of(fields["files"], 7)
         least = min(min(column, default=0) for column in (kinds, sames, olds, news))
-        if not isinstance(fields["boot"], str) or not are_in_order(paths) or least < 0:
+        changes = [(kind, records[old], records[new]) for kind, old, new in set(zip(kinds, olds, news))]
+        # Each file changes, and none but a directory has a default list.
+        are_changes = all(old != new and (kind or not old.default + new.default) for kind, old, new in changes)
+        if not isinstance(fields["boot"], str) or not are_in_order(paths) or least < 0 or not are_changes:
             raise ValueError
-        for kind, old, new in set(zip(kinds, olds, news)):
-            check_change(bool(kind), records[old], records[new])
         files = map(PlannedFile, map(bool, kinds), map(Identity, devices, inodes, births), sames,
                     map(records.__getitem__, olds), map(records.__getitem__, news))
         return Work(fields["boot"], dict(zip(paths, files)))
-
-
-def check_change(is_directory: bool, old: Record, new: Record) -> None:
-    """Fails where a file does not change, or has a default list and is no directory."""
-    if old == new or not is_directory and (old.default or new.default):
-        raise ValueError
 
 
 def are_in_order(paths: List[bytes]) -> bool:
@@ -127,16 +123,8 @@ def is_path(path: bytes) -> bool:
     return are_in_order([path])
 
 
-# --- the journal
-
-
-class Journal(NamedTuple):
-    boot: str
-    files: Dict[bytes, Identity]
-
-
 def journal_text(boot: str, files: Dict[bytes, Identity]) -> bytes:
-    return b'{"boot":%s,"files":%s}\n' % (json.dumps(boot).encode(), rows_text(files, files.values(), 3).encode())
+    return text_of(files, files.values(), boot=boot)
 
 
 def read_journal(name: bytes, text: bytes) -> Journal:

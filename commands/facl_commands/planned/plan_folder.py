@@ -7,14 +7,14 @@ from __future__ import annotations
 
 import errno
 import fcntl
+import itertools
 import os
 import secrets
-import signal
 import stat
-from typing import Dict, Iterator, NamedTuple, Optional, Tuple
+from typing import Dict, NamedTuple, Optional, Tuple
 
 from ..base import linux, new_file, own_files, trusted
-from ..base.messages import SIGNALS, Failure, reason, signals_wait
+from ..base.messages import Failure, reason, signals_wait
 from ..base.new_file import DIRECTORY, is_there, make_directory
 
 VERSION = b"facl-plan 3\n"
@@ -24,10 +24,26 @@ NAMES = (LOCK, b"plan", b"edits", b"old", b"new", b"files", b"steps", b"by_hand"
 DONE_BY_HAND = b"by_hand_done"
 MARKS = (LOCK, DONE_BY_HAND, b"journal", b"state")  # What is believed later; of the owner alone, also for --readers.
 NEW = b".new"  # At the end of a name while the file is written.
+KNOWN = {*NAMES, *(name + NEW for name in NAMES)}
 # What facl-apply has done, in the file `state`; without it nothing was done.
 APPLYING, APPLIED, UNDOING, UNDONE = b"applying\n", b"applied\n", b"undoing\n", b"undone\n"
 UNDONE_IN_PART = b"undone in part\n"  # Files that somebody had changed were left out.
-STATES = (APPLYING, APPLIED, UNDOING, UNDONE, UNDONE_IN_PART)
+
+
+class Place(NamedTuple):
+    """Where a plan is or is to be: a name in a folder that is open; shown is what messages call it."""
+
+    above: int
+    name: bytes
+    shown: bytes
+
+
+def look_at(name: bytes, folder: int) -> Optional[os.stat_result]:
+    """What has a name in an open folder; None if nothing has."""
+    try:
+        return os.stat(name, dir_fd=folder, follow_symlinks=False)
+    except FileNotFoundError:
+        return None
 
 
 class PlanFolder(NamedTuple):
@@ -43,95 +59,55 @@ class PlanFolder(NamedTuple):
         read = own_files.read_mark if name in MARKS else trusted.read_in
         return read(self.descriptor, self.name, name)
 
-    def has_notes(self) -> bool:
-        """Whether by_hand has noted something; without that its notes are empty."""
-        try:
-            return os.stat(DONE_BY_HAND, dir_fd=self.descriptor, follow_symlinks=False).st_size > 0
-        except FileNotFoundError:
-            return False
+    def is_used(self) -> bool:
+        """Whether facl-apply has used it, or by_hand has noted something: without that its notes are empty."""
+        notes = look_at(DONE_BY_HAND, self.descriptor)
+        return self.has(b"state") or notes is not None and notes.st_size > 0
 
     def state(self) -> bytes:
         """What facl-apply has done; empty where it did nothing."""
         if not self.has(b"state"):
             return b""
         found = self.read(b"state")
-        if found not in STATES:
+        if found not in (APPLYING, APPLIED, UNDOING, UNDONE, UNDONE_IN_PART):
             raise Failure(self.name + b"/state: is not what facl apply wrote, so it is not known what was done: compare the files "
                           b"with old and new of the plan, and make another plan")
         return found
 
-    def write(self, name: bytes, text: bytes) -> None:
-        """Makes a new file, which is on the disk then."""
-        new_file.write(name, self.descriptor, text)
-
     def replace(self, name: bytes, text: bytes) -> None:
         """Writes a file of a plan by one rename; on the disk it is the old one or the new one."""
-        if self.has(name + NEW):  # Of a run that was killed.
-            os.unlink(name + NEW, dir_fd=self.descriptor)
+        self.drop(name + NEW)  # Of a run that was killed.
         try:
-            self.write(name + NEW, text)
+            new_file.write(name + NEW, self.descriptor, text)
             os.rename(name + NEW, name, src_dir_fd=self.descriptor, dst_dir_fd=self.descriptor)
-        except BaseException:
-            if self.has(name + NEW):
-                os.unlink(name + NEW, dir_fd=self.descriptor)
-            raise
+        finally:
+            self.drop(name + NEW)
         os.fsync(self.descriptor)
 
-    def others(self) -> Optional[bytes]:
-        """A file in it that is none of a plan."""
-        known = {*NAMES, *(name + NEW for name in NAMES)}
-        return next((it for it in sorted(map(os.fsencode, os.listdir(self.descriptor))) if it not in known), None)
+    def drop(self, name: bytes) -> None:
+        if self.has(name):
+            os.unlink(name, dir_fd=self.descriptor)
+
+    def has_others(self) -> bool:
+        """Whether a file in it is none of a plan."""
+        return not KNOWN.issuperset(map(os.fsencode, os.listdir(self.descriptor)))
 
     def lock(self) -> None:
         """Locks it until the command ends."""
-        descriptor = self.descriptor
-        if self.has(LOCK):
-            descriptor = own_files.open_mark(self.descriptor, self.name, LOCK)
+        has_lock = self.has(LOCK)
+        descriptor = own_files.open_mark(self.descriptor, self.name, LOCK) if has_lock else self.descriptor
         try:
             fcntl.flock(descriptor, fcntl.LOCK_EX | fcntl.LOCK_NB)
         except BlockingIOError as error:
             raise Failure(self.name + b": another facl plan, apply, undo or by_hand is at work on it") from error
 
-    def is_of(self, place: "Place") -> bool:
+    def is_at(self, place: Place) -> bool:
         """Whether a name leads to this folder."""
-        try:
-            status = os.stat(place.name, dir_fd=place.above, follow_symlinks=False)
-        except FileNotFoundError:
-            return False
-        own = os.fstat(self.descriptor)
-        return (status.st_dev, status.st_ino) == (own.st_dev, own.st_ino)
+        status = look_at(place.name, place.above)
+        return status is not None and os.path.samestat(status, os.fstat(self.descriptor))
 
 
-class Place(NamedTuple):
-    """Where a plan is or is to be: a name in a folder that is open; shown is what messages call it."""
-
-    above: int
-    name: bytes
-    shown: bytes
-
-    def open(self) -> PlanFolder:
-        """Opens and locks the plan that is there."""
-        try:
-            descriptor = os.open(self.name, DIRECTORY, dir_fd=self.above)
-        except OSError as error:
-            raise Failure(self.shown + b": " + reason(error)) from error
-        fault = trusted.fault_of(descriptor, os.fstat(descriptor))
-        if fault is not None:
-            raise Failure(self.shown + b": " + fault + b", so it is not trusted")
-        folder = PlanFolder(descriptor, self.shown)
-        folder.lock()
-        if not folder.is_of(self):
-            raise Failure(self.shown + b": somebody replaced it at this moment; run the command again")
-        return folder
-
-    def has(self) -> bool:
-        return is_there(self.name, self.above)
-
-    def numbered(self) -> Iterator["Place"]:
-        number = 1
-        while True:
-            yield Place(self.above, self.name + b".%d" % number, self.shown + b".%d" % number)
-            number += 1
+Target = Tuple[Place, Optional[PlanFolder]]  # Where a plan is to be, with the one that is there, which is locked.
 
 
 def place_of(name: bytes) -> Place:
@@ -144,16 +120,28 @@ def place_of(name: bytes) -> Place:
     return Place(trusted.open_folder(above), last, name)
 
 
-# --- for facl-apply
+def open_at(place: Place) -> PlanFolder:
+    """Opens and locks the plan that is at a place."""
+    try:
+        descriptor = os.open(place.name, DIRECTORY, dir_fd=place.above)
+    except OSError as error:
+        raise Failure(place.shown + b": " + reason(error)) from error
+    fault = trusted.fault_of(descriptor, os.fstat(descriptor))
+    if fault is not None:
+        raise Failure(place.shown + b": " + fault + b", so it is not trusted")
+    folder = PlanFolder(descriptor, place.shown)
+    folder.lock()
+    if not folder.is_at(place):
+        raise Failure(place.shown + b": somebody replaced it at this moment; run the command again")
+    return folder
 
 
 def open_plan(name: bytes) -> PlanFolder:
-    """Opens and locks a plan."""
+    """Opens and locks a plan, for facl-apply."""
     if not os.path.isdir(name):
         raise Failure(os.path.abspath(name) + b": is not a plan; make one with facl plan")
     os.close(trusted.open_folder(name))
-    place = place_of(os.path.realpath(name))
-    folder = place.open()._replace(name=os.path.abspath(name))
+    folder = open_at(place_of(os.path.realpath(name)))._replace(name=os.path.abspath(name))
     if not folder.has(b"plan"):
         raise Failure(folder.name + b": is not a plan; make one with facl plan")
     if folder.read(b"plan") != VERSION:
@@ -161,65 +149,42 @@ def open_plan(name: bytes) -> PlanFolder:
     return folder
 
 
-def set_state(folder: PlanFolder, state: bytes) -> None:
-    """On the disk before anything else is done."""
-    folder.replace(b"state", state)
-
-
 # --- for facl-plan
-
-
-class Target(NamedTuple):
-    """Where a plan is to be, with the one that is there, which is locked."""
-
-    place: Place
-    old: Optional[PlanFolder]
 
 
 def open_target(name: bytes) -> Target:
     """Locks the plan that is there; fails where the place cannot be written or has something else."""
     place = place_of(name)
-    if not place.has():
-        return Target(place, None)
-    status = os.stat(place.name, dir_fd=place.above, follow_symlinks=False)
+    status = look_at(place.name, place.above)
+    if status is None:
+        return place, None
     if not stat.S_ISDIR(status.st_mode):
         raise Failure(name + b" exists and is not a plan; choose another name with -o")
-    old = place.open()
-    if old.others() is not None:
+    old = open_at(place)
+    if old.has_others():
         raise Failure(name + b" exists and is not a plan alone (it has other files); choose another name with -o")
-    return Target(place, old)
-
-
-def new_folder(place: Place) -> Tuple[bytes, PlanFolder]:
-    """Makes a folder beside a place, which nobody else can enter."""
-    name = place.name + b"." + secrets.token_hex(4).encode()
-    return name, PlanFolder(make_directory(name, place.above), place.shown)
-
-
-def ignore_signals() -> None:
-    """No signal ends the command from now on, nor does one that waits."""
-    for number in SIGNALS:
-        signal.signal(number, signal.SIG_IGN)
+    return place, old
 
 
 def write_plan(target: Target, files: Dict[bytes, bytes], group: Optional[int]) -> Optional[bytes]:
-    """Writes a plan whole beside its place, and puts it there; with a group, its members can read it. Returns the name
-    of the one that was there where that is kept."""
-    place = target.place
-    made: Optional[Tuple[bytes, PlanFolder]] = None
+    """Writes a plan whole beside its place, in a folder which nobody else can enter, and puts it there; with a group, its
+    members can read it. Returns the name of the one that was there where that is kept."""
+    place, name = target[0], target[0].name + b"." + secrets.token_hex(4).encode()
+    made: Optional[PlanFolder] = None
     try:
         with signals_wait():
-            made = new_folder(place)
+            made = PlanFolder(make_directory(name, place.above), place.shown)
         for mark in (LOCK, DONE_BY_HAND):
-            made[1].write(mark, b"")
-        made[1].lock()
-        for name, text in {b"plan": VERSION, **files}.items():
-            made[1].write(name, text)
-        share(made[1], group)
-        os.fsync(made[1].descriptor)
+            new_file.write(mark, made.descriptor, b"")
+        made.lock()
+        for file, text in {b"plan": VERSION, **files}.items():
+            new_file.write(file, made.descriptor, text)
+        if group is not None:
+            share(made, group)
+        os.fsync(made.descriptor)
         with signals_wait():
-            put_in_place(target, made[0])
-            name, made = made[0], None
+            put_in_place(target, name)
+            made = None
             kept = put_away(target, name)
         os.fsync(place.above)
         return kept
@@ -227,13 +192,11 @@ def write_plan(target: Target, files: Dict[bytes, bytes], group: Optional[int]) 
         raise Failure(place.shown + b": cannot be written: " + reason(error)) from error
     finally:
         if made is not None:
-            remove(place, made[0], made[1])
+            remove(place, name, made)
 
 
-def share(folder: PlanFolder, group: Optional[int]) -> None:
+def share(folder: PlanFolder, group: int) -> None:
     """Lets the members of a group read it, but for what a command believes later."""
-    if group is None:
-        return
     for name in set(os.listdir(folder.descriptor)) - set(map(os.fsdecode, MARKS)):
         descriptor = os.open(name, os.O_RDONLY | os.O_NOFOLLOW | os.O_CLOEXEC, dir_fd=folder.descriptor)
         new_file.share(descriptor, group, 0o640)
@@ -243,9 +206,8 @@ def share(folder: PlanFolder, group: Optional[int]) -> None:
 
 def remove(place: Place, name: bytes, folder: PlanFolder) -> bool:
     """Removes the files of a plan, and its folder where nothing else is in it; whether that is so."""
-    for known in os.listdir(folder.descriptor):
-        if os.fsencode(known) in NAMES or known.endswith(os.fsdecode(NEW)):
-            os.unlink(known, dir_fd=folder.descriptor)
+    for known in KNOWN.intersection(map(os.fsencode, os.listdir(folder.descriptor))):
+        os.unlink(known, dir_fd=folder.descriptor)
     try:
         os.rmdir(name, dir_fd=place.above)
     except OSError as error:
@@ -260,29 +222,26 @@ def put_in_place(target: Target, made: bytes) -> None:
     place, old = target
     if old is None:
         linux.rename_new(made, place.name, place.above)
-    elif not old.is_of(place):
+    elif not old.is_at(place):
         raise Failure(place.shown + b": somebody replaced it meanwhile; nothing was written; run facl plan again")
     else:
         linux.exchange(made, place.name, place.above)
 
 
 def put_away(target: Target, name: bytes) -> Optional[bytes]:
-    """Removes the plan that was there, which has this name now; returns its new name where it is kept."""
+    """Removes the plan that was there, which has this name now; where it is kept, it gets the first name of the place with a
+    number that is free, which is returned."""
     place, old = target
     if old is None:
         return None
-    is_kept = old.has(b"state") or old.has_notes() or old.others() is not None
-    if is_kept or not remove(place, name, old):
-        return keep(place, name).shown
-    return None
-
-
-def keep(place: Place, name: bytes) -> Place:
-    """Gives what has a name the first one of a place with a number that is free."""
-    for numbered in place.numbered():
+    is_kept = old.is_used() or old.has_others()
+    if not is_kept and remove(place, name, old):
+        return None
+    for number in itertools.count(1):
+        end = b".%d" % number
         try:
-            linux.rename_new(name, numbered.name, place.above)
+            linux.rename_new(name, place.name + end, place.above)
+            return place.shown + end
         except FileExistsError:
             continue
-        return numbered
     raise AssertionError
