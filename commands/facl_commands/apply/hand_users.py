@@ -8,7 +8,7 @@ import signal
 import subprocess
 from typing import Iterator, NamedTuple, Optional, Tuple
 
-from ..base.environment import environment_of_called
+from ..base.programs import environment_of_called
 from ..base.messages import SIGNALS, Failure, signals_wait
 from ..base.names import write_name
 from ..base.user_tools import ADD_MEMBER, ADD_USER, MEMBERSHIPS, REMOVE_USER, PeopleChange

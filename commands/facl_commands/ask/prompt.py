@@ -8,7 +8,7 @@ from ..base.messages import Failure
 from ..base.names import read_path, shown
 from ..model.everybody import ElseAnswers
 from ..model.marks import NO_MARKS, Marks
-from ..model.superuser import Superusers
+from ..model.people import Superusers
 from ..program.hints.hint import explained
 from ..program.protocol import (
     IN_LINE, PROGRAM, UNKNOWN_TOOL, is_refused, lacking_file, lacks_file, message_of,

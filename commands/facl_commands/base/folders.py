@@ -13,8 +13,7 @@ import stat
 from typing import Dict, Iterator, List, NamedTuple, Optional, Tuple
 
 from . import beside, scratch, trusted
-from .attempts import failing
-from .messages import Failure
+from .messages import Failure, failing
 
 TEXTS = (b"passwd", b"group", b"dump")  # Which the program loads.
 FILES = (*TEXTS, b"links", b"inodes", beside.NAME, b"meta")

@@ -20,6 +20,24 @@ SIGNALS = (signal.SIGHUP, signal.SIGINT, signal.SIGQUIT, signal.SIGUSR1, signal.
            signal.SIGTERM)  # Each ends a command, and leaves nothing behind.
 
 
+@contextlib.contextmanager
+def failing(text: bytes, gives_reason: bool = False) -> Iterator[None]:
+    """Has a call of the system that fails end the command with this text, and with the reason of the system where it is given."""
+    try:
+        yield
+    except OSError as error:
+        raise Failure(text + (b": " + reason(error)) * gives_reason) from error
+
+
+@contextlib.contextmanager
+def held(descriptor: int) -> Iterator[int]:
+    """Closes a descriptor at the end."""
+    try:
+        yield descriptor
+    finally:
+        os.close(descriptor)
+
+
 def parser_of(name: str, description: str, status: str) -> argparse.ArgumentParser:
     """What reads the words of a command; they may not be cut short."""
     parser = argparse.ArgumentParser(prog=name, description=description, epilog=status, allow_abbrev=False,

@@ -8,8 +8,7 @@ import os
 import signal
 
 from . import acl_bytes, linux, trusted
-from .attempts import failing
-from .messages import SIGNALS, Failure, reason
+from .messages import SIGNALS, Failure, failing, reason
 from .trusted import PRIVATE
 
 DIRECTORY = os.O_RDONLY | os.O_DIRECTORY | os.O_NOFOLLOW | os.O_CLOEXEC

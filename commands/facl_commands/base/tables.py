@@ -16,10 +16,9 @@ from functools import partial
 from typing import Dict, Iterator, List, Mapping, NamedTuple, Optional, Sequence
 
 from .. import VERSION
-from .environment import environment_of_called
 from .messages import Command, Failure
 from .names import shown
-from .programs import judge_word
+from .programs import environment_of_called, judge_word
 from .progress import AT
 
 GAP = "  "  # Between two columns.

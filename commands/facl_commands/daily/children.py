@@ -8,7 +8,7 @@ import subprocess
 from types import FrameType
 from typing import IO, Dict, List, NamedTuple, Optional, Sequence
 
-from ..base.environment import HOME
+from ..base.programs import HOME
 from ..base.messages import SIGNALS, Interrupted
 
 SAID_LIMIT = 16 << 20  # Bytes that are kept of what a command prints.

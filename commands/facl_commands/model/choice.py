@@ -11,8 +11,7 @@ from ..base.names import live_name, path_word, read_name, read_path, write_user
 from ..program.protocol import LIST
 from ..program.session import Session
 from . import meta, sources
-from .people import rows_of
-from .superuser import ids_in, superusers_among
+from .people import ids_in, rows_of, superusers_among
 
 MOST_NAMES = 5  # In a message.
 

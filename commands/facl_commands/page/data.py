@@ -16,9 +16,8 @@ from ..model.everybody import everybody_in, free_ids
 from ..model.file_columns import FileColumns
 from ..model.label_answers import PeopleTexts
 from ..model.marks import TEXTS, Marks, alone, not_judged
-from ..model.people import plain_id, rows_of
+from ..model.people import Superusers, ids_in, plain_id, rows_of
 from ..model.snapshot import Snapshot
-from ..model.superuser import Superusers, ids_in
 from ..program.protocol import ADD_USER_WITH
 from ..program.scripts import Unit
 from ..program.tools import CHANGES_OF_PEOPLE

@@ -13,7 +13,7 @@ import signal
 import stat
 from typing import Dict, Iterator, NamedTuple, Optional, Tuple
 
-from ..base import linux, new_file, own_files, trusted
+from ..base import linux, new_file, trusted
 from ..base.messages import SIGNALS, Failure, reason, signals_wait
 from ..base.new_file import DIRECTORY, is_there, make_directory
 
@@ -40,8 +40,7 @@ class PlanFolder(NamedTuple):
         return is_there(name, self.descriptor)
 
     def read(self, name: bytes) -> bytes:
-        read = own_files.read_mark if name in MARKS else trusted.read_in
-        return read(self.descriptor, self.name, name)
+        return trusted.read_in(self.descriptor, self.name, name, is_mark=name in MARKS)
 
     def has_notes(self) -> bool:
         """Whether by_hand has noted something; without that its notes are empty."""
@@ -86,7 +85,7 @@ class PlanFolder(NamedTuple):
         """Locks it until the command ends."""
         descriptor = self.descriptor
         if self.has(LOCK):
-            descriptor = own_files.open_mark(self.descriptor, self.name, LOCK)
+            descriptor = trusted.open_mark(self.descriptor, self.name, LOCK)
         try:
             fcntl.flock(descriptor, fcntl.LOCK_EX | fcntl.LOCK_NB)
         except BlockingIOError as error:

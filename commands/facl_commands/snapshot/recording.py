@@ -6,8 +6,7 @@ from functools import partial
 from typing import IO, Iterable, Iterator, List, Optional
 
 from ..base import beside, linux
-from ..base.attempts import failing
-from ..base.messages import Failure
+from ..base.messages import Failure, failing
 from ..base.new_file import create, make_directory
 from ..base.progress import AT
 from . import scope as scopes

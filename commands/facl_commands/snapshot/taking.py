@@ -9,9 +9,8 @@ import time
 from typing import Iterator, List, NamedTuple, Optional
 
 from .. import VERSION
-from ..base.attempts import failing, held
-from ..base.environment import environment_of_called
-from ..base.messages import Command, Failure, counted
+from ..base.programs import environment_of_called
+from ..base.messages import Command, Failure, counted, failing, held
 from ..base.new_file import DIRECTORY
 from . import asking
 from .in_order import found_by

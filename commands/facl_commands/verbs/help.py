@@ -9,7 +9,7 @@ import textwrap
 from typing import Iterator, List, Optional
 
 from ..base import tables
-from ..base.environment import HOME, environment_of_called
+from ..base.programs import HOME, environment_of_called
 from ..base.messages import Command
 from .table import ASKING, BY_VERB, CHANGING, RECORDING, SHOWING, VERBS, Verb, no_verb, parser_of
 

@@ -7,7 +7,7 @@ import shutil
 import subprocess
 
 from ..base import new_file, trusted
-from ..base.environment import environment_of_called
+from ..base.programs import environment_of_called
 from ..base.messages import Command, Failure
 from ..base.names import PLAIN_SHELL_WORD
 from .options import BY_FIELD

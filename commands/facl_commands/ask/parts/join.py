@@ -17,7 +17,7 @@ from ...base.messages import Command, Failure
 from ...base.names import path_order, read_path, write_name
 from ...model import overview
 from ...model.everybody import ElseAnswers, beside_of, everybody_in
-from ...model.superuser import Superusers
+from ...model.people import Superusers
 from ...program.answering import below_heading, lines_for_terminal, write_messages
 from ...program.protocol import ANSWERED, PROGRAM, REFUSED, is_refused, lacking_file, lacks_file, message_of
 from ...program.scripts import Script, Unit, read_text
