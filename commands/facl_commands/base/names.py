@@ -1,5 +1,4 @@
-"""Names of files and users in texts: their escapes, as the section SCRIPTS of the manual page has them, and their
-quotes.
+"""Names of files and users in texts: their escapes, as the section SCRIPTS of the manual page has them, and their quotes.
 
 A path is its components with a slash between each two, as bytes; the root is the empty path.
 """

@@ -1,6 +1,5 @@
 """The files of a listing of the program in columns: their paths, and numbers of what their records have after the name. A million
-files have few different ones, so what is said of records is said of these, and what is said of directories by folders.
-"""
+files have few different ones, so what is said of records is said of these, and what is said of directories by folders."""
 from __future__ import annotations
 
 import itertools

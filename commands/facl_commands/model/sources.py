@@ -1,8 +1,7 @@
-"""Any dump: a folder with passwd, group and dump alone, or three files by name, also without the directories above its
-files.
+"""Any dump: a folder with passwd, group and dump alone, or three files by name, also without the directories above its files.
 
-A command calls add_source for its words and opens what is given by opened; then notice has what such a snapshot cannot
-tell, find_tops the files that no recorded directory is above, and list_below listings from these on.
+A command calls add_source for its words and opens what is given by opened; then notice has what such a snapshot cannot tell,
+find_tops the files that no recorded directory is above, and list_below listings from these on.
 """
 from __future__ import annotations
 

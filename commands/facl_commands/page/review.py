@@ -115,8 +115,7 @@ def counted_by(classes: Counts[Tuple[int, bool, bytes]], granted: List[Vector]) 
 
 
 def who_of(entry: Entry, names: Sequence[bytes], ids: NamesOfIds, is_default: bool) -> str:
-    """Of whom an entry is, in words; names has the owner and the group. A new file has an owner and a group of its
-    own."""
+    """Of whom an entry is, in words; names has the owner and the group. A new file has an owner and a group of its own."""
     if entry.is_named():
         return shown(ids.shown(entry.key))
     mine, its = (b"its owner", b"its group") if is_default else (b"owner " + names[0], b"owning group " + names[1])
@@ -140,8 +139,7 @@ class Lists:
                    for entry, line in zip(record.access, lines)]
         entries += [self.entry(entry, who_of(entry, names, self.ids, True), b"d:", []) for entry in record.default]
         flags = "" if record.flags == NOTHING else record.flags.decode()
-        return {"folder": is_directory, "owner": shown(names[0]), "group": shown(names[1]), "flags": flags,
-                "entries": entries}
+        return {"folder": is_directory, "owner": shown(names[0]), "group": shown(names[1]), "flags": flags, "entries": entries}
 
     def entry(self, entry: Entry, who: str, begin: bytes, people: List[int]) -> Dict[str, object]:
         """An entry, with what setfacl takes it away by; nothing where it cannot go."""
@@ -188,8 +186,7 @@ def ask_people(program: str, source: Source, given: argparse.Namespace, passwd: 
                          [list(map(its.of, places)) for its in answers.reasons], entries, answers.lists)
 
 
-def data_of(program: str, reviewed: Reviewed, source: Source, given: argparse.Namespace,
-            is_whole: bool) -> Dict[str, object]:
+def data_of(program: str, reviewed: Reviewed, source: Source, given: argparse.Namespace, is_whole: bool) -> Dict[str, object]:
     passwd, group = map(folder_of(source.folder).read, NEEDED[:2])
     bodies, (_, files, _) = reviewed.labels.bodies(), reviewed
     parts = reviewed.parts()
@@ -220,8 +217,7 @@ def add_options(parser: argparse.ArgumentParser) -> None:
                         "of which it makes the lines that take the ticked ones away; needs --folder")
     parser.add_argument("--folder", metavar="FOLDER",
                         help="with --for-review: as on the live system, or from the root of the snapshot")
-    parser.add_argument("--all-users", action="store_true",
-                        help=f"with --for-review: all users, and not people alone ({PEOPLE})")
+    parser.add_argument("--all-users", action="store_true", help=f"with --for-review: all users, and not people alone ({PEOPLE})")
 
 
 def check_options(parser: argparse.ArgumentParser, given: argparse.Namespace) -> None:

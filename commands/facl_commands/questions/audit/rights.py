@@ -53,7 +53,7 @@ class EverybodyRights:
 
     def __init__(self, audited: Audited) -> None:
         self.above, everybody = audited.tree.above, audited.world.everybody
-        people = PeopleTexts(everybody.passwd(), everybody.with_group(audited.world.texts.group), b"")
+        people = PeopleTexts(everybody.with_user(b""), everybody.with_group(audited.world.texts.group), b"")
         bodies = list(dict.fromkeys(file.body for file in audited.tree.files))
         self.vectors = ask_vectors(audited.program, people, bodies)[0].of_body
         self.closed: Dict[bytes, Optional[bytes]] = {}

@@ -70,7 +70,7 @@ class Asker:
         self.world, self.session, self.given = world, world.session, given
         self.users = world.users
         # The rows of all whom an answer can have, in its order: everybody else comes first.
-        self.passwd = world.everybody.passwd() + world.texts.passwd
+        self.passwd = world.everybody.with_user(b"") + world.texts.passwd
         self.marks = marks_of(self.session.folder)
         self.judged_by = NO_MARKS if given.lists_alone else self.marks
         self.unwritable: Optional[Unwritable] = None  # Files that were left out last.
