@@ -45,9 +45,7 @@ class Reviewed(NamedTuple):
     above: FileColumns  # Those that are recorded, from the highest one down.
     files: FileColumns
     labels: Labels  # Of both.
-
-    def parts(self) -> List[FolderFiles]:
-        return [*by_folder(self.files.paths)]
+    parts: List[FolderFiles]
 
 
 def read_reviewed(session: Session, word: bytes) -> Reviewed:
@@ -55,7 +53,8 @@ def read_reviewed(session: Session, word: bytes) -> Reviewed:
     above = [it for it in directories_above(path)[::-1] if choice.is_recorded(session, it)]
     lines = [LIST_CUT + b" " + path_word(it) for it in above]
     recorded = columns_of(map(session.ask_accepted, lines), labels)
-    return Reviewed(recorded, columns_of([session.ask_accepted(LIST_EFFECTIVE + b" " + path_word(path))], labels), labels)
+    files = columns_of([session.ask_accepted(LIST_EFFECTIVE + b" " + path_word(path))], labels)
+    return Reviewed(recorded, files, labels, [*by_folder(files.paths)])
 
 
 class PeopleAnswers(NamedTuple):
@@ -90,17 +89,12 @@ def rights_of(reviewed: Reviewed, folders: Set[int], granted: List[Vector], is_a
     reaches: Dict[int, bytes] = {}  # and to what is one perhaps, as the next file is in it.
     labels, place = reviewed.files.labels, 0
     classes: Counts[Tuple[int, bool, bytes]] = Counter()
-    for _, _, parent, _, names in reviewed.parts():
+    for _, _, parent, _, names in reviewed.parts:
         if parent not in insides:
             insides[parent] = everybody if is_alone else inside(reaches[parent], granted[labels[parent]])
         reach, end = insides[parent], place + len(names)
         classes.update((labels[it], it in folders, reach) for it in range(place, end))
         place, reaches[end - 1] = end, reach
-    return counted_by(classes, granted)
-
-
-def counted_by(classes: Counts[Tuple[int, bool, bytes]], granted: List[Vector]) -> RightsByList:
-    """The rights of each person, from files of one list to which the same people get."""
     found = RightsByList(Counter(), Counter(), Counter(), {})
     for (label, is_directory, reach), files in classes.items():
         vector = along_path(granted[label], reach)
@@ -188,8 +182,7 @@ def ask_people(program: str, source: Source, given: argparse.Namespace, passwd: 
 
 def data_of(program: str, reviewed: Reviewed, source: Source, given: argparse.Namespace, is_whole: bool) -> Dict[str, object]:
     passwd, group = map(folder_of(source.folder).read, NEEDED[:2])
-    bodies, (_, files, _) = reviewed.labels.bodies(), reviewed
-    parts = reviewed.parts()
+    bodies, (_, files, _, parts) = reviewed.labels.bodies(), reviewed
     parents = [its.parent for its in parts for _ in its.names]
     folders = {*files.folders, *parents} - {ABOVE}
     answers = ask_people(program, source, given, passwd, group, bodies)
