@@ -6,9 +6,9 @@ from typing import Dict, Iterable, Iterator, List, NamedTuple, Optional, Tuple
 
 from ...base.messages import Failure
 from ...base.names import parent_of, path_word, way_to, write_user
-from ...model.file_columns import AlikeFiles, AlikeKey
 from ...model.choice import is_chosen
 from ...model.entries import GROUP, OTHER, USER, Key, digits, flag_digit, named, read_record, without
+from ...model.file_columns import AlikeFiles, AlikeKey
 from ...model.label_answers import PeopleTexts, ask_vectors
 from ...model.people import People, groups_by_user, users_by_group
 from ...model.records import File
