@@ -161,7 +161,7 @@ class Node(NamedTuple):
 
 NO_ANSWER: Answer = (0, False, False)
 END = 0  # The node where all is done.
-SAME = ("common", "permissions_of", "mode_of")  # Functions of lists alone.
+SAME = ("common", "permissions_of")  # Functions of lists alone.
 
 
 class Program:

@@ -28,7 +28,7 @@ from facl_commands.base.names import shown  # noqa: E402
 from facl_commands.base.programs import LINUX  # noqa: E402
 from facl_commands.model import overview  # noqa: E402
 from facl_commands.model.snapshot import check_texts  # noqa: E402
-from facl_commands.model.superuser import Superusers  # noqa: E402
+from facl_commands.model.people import Superusers  # noqa: E402
 from facl_commands.program import tools  # noqa: E402
 from facl_commands.program.session import Session  # noqa: E402
 

@@ -17,7 +17,7 @@ from facl_commands.base.programs import LINUX  # noqa: E402
 from facl_commands.model.everybody import (  # noqa: E402
     ElseAnswers, Everybody, answers_over, beside_of, people_in, read_everybody, session_with,
 )
-from facl_commands.model.superuser import Superusers  # noqa: E402
+from facl_commands.model.people import Superusers  # noqa: E402
 from facl_commands.program.scripts import read_script  # noqa: E402
 
 SHARE = os.fsencode(os.path.join(HERE, "snapshots", "share"))

@@ -242,7 +242,7 @@ class Lists(unittest.TestCase):
 
     def test_the_list_of_a_mode(self) -> None:
         self.assertEqual(lines_of(acl_bytes.minimal(0o751)), b"user::rwx\ngroup::r-x\nother::--x\n")
-        self.assertEqual([acl_bytes.mode_of(acl_bytes.minimal(mode)) for mode in range(0o1000)], list(range(0o1000)))
+        self.assertEqual([acl_bytes.permissions_of(acl_bytes.minimal(mode)) for mode in range(0o1000)], list(range(0o1000)))
 
 
 if __name__ == "__main__":

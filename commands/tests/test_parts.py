@@ -18,7 +18,7 @@ from facl_commands.base import folders, names, user_tools  # noqa: E402
 from facl_commands.base.messages import Failure  # noqa: E402
 from facl_commands.base.programs import LINUX  # noqa: E402
 from facl_commands.model import (  # noqa: E402
-    entries, everybody, file_columns, overview, people, records, snapshot, sources, split_tree, superuser,
+    entries, everybody, file_columns, overview, people, records, snapshot, sources, split_tree,
 )
 from facl_commands.plan import hard_links  # noqa: E402
 from facl_commands.program import scripts, tools  # noqa: E402
@@ -294,7 +294,7 @@ class Tools(unittest.TestCase):
         for tool, line in ((b"who", b"joe"), (b"index", b"ff joe a b"), (b"changes", b"joe loses r-- a b"), (b"below", b"12 joe a b"),
                            (b"gains", b"11 -- 30 joe a b")):
             self.assertEqual(tools.user_in(tool, line), b"joe")
-        self.assertEqual([name for name in tools.ABOUT_USERS if name not in superuser.NOTE], [])
+        self.assertEqual([name for name in tools.ABOUT_USERS if name not in people.NOTE], [])
 
     def test_operands_by_options(self) -> None:
         for words, operands in (("-r", ["LIST", "FILE"]), ("-d", ["LIST", "FILE"]), ("-b", ["LIST", "LIST", "FILE"]),

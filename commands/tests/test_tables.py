@@ -22,7 +22,7 @@ from facl_commands.base.messages import Failure  # noqa: E402
 from facl_commands.base.programs import LINUX  # noqa: E402
 from facl_commands.base.tables import Column  # noqa: E402
 from facl_commands.model import choice  # noqa: E402
-from facl_commands.model.superuser import ids_in  # noqa: E402
+from facl_commands.model.people import ids_in  # noqa: E402
 from facl_commands.program.session import Session  # noqa: E402
 
 PASSWD = b"".join(b"%s:x:%d:100::/:\n" % row for row in (

@@ -7,7 +7,7 @@ import stat
 from typing import Dict, Iterable, List, NamedTuple, Optional, Set, Tuple
 
 from ..base import linux, live
-from ..base.acl_bytes import Record, is_minimal, owner_permissions
+from ..base.acl_bytes import Record, is_minimal, permissions_of
 from ..base.linux import Identity, Mount
 from ..base.live import NotFound, Opener, OpenFile, Seen
 from ..base.names import is_below
@@ -79,7 +79,7 @@ def search_of(way: Direction, path: bytes) -> Tuple[bool, bool]:
     """Whether the caller, who owns a directory, has search on it before and after; root always has."""
     if os.geteuid() == 0 or not way.work.files[path].is_directory:
         return True, True
-    start, end = (owner_permissions(record.access) & 1 for record in (way.start(path), way.end(path)))
+    start, end = (permissions_of(record.access) & 0o100 for record in (way.start(path), way.end(path)))
     return bool(start), bool(end)
 
 
@@ -95,7 +95,7 @@ def closes(way: Direction, path: bytes) -> bool:
 
 def was_closed(way: Direction, path: bytes, now: Record) -> bool:
     """Whether a run that was cut off has left a directory closed to the caller which is only to be closed at the end."""
-    return way.is_in_part() and closes(way, path) and not owner_permissions(now.access) & 1
+    return way.is_in_part() and closes(way, path) and not permissions_of(now.access) & 0o100
 
 
 def look_at(way: Direction, paths: Iterable[bytes]) -> Look:

@@ -8,9 +8,9 @@ import signal
 import subprocess
 from typing import Iterator, NamedTuple, Optional, Tuple
 
-from ..base.environment import environment_of_called
 from ..base.messages import SIGNALS, Failure, signals_wait
 from ..base.names import write_name
+from ..base.programs import environment_of_called
 from ..base.user_tools import ADD_MEMBER, ADD_USER, MEMBERSHIPS, REMOVE_USER, PeopleChange
 from ..planned.by_hand import BEGUN, FINISHED, FOUND, UNDONE, Doing, PeopleStep
 from .carrying import Mismatch

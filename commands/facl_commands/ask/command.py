@@ -11,12 +11,10 @@ import termios
 from types import FrameType
 from typing import Callable, Dict, Iterable, Iterator, List, NoReturn, Optional
 
-from ..base.attempts import failing
-from ..base.environment import environment_of_called
 from ..base.folders import folder_of
-from ..base.messages import SIGNALS, Command, Failure, parser_of, reason
+from ..base.messages import SIGNALS, Command, Failure, failing, parser_of, reason
 from ..base.names import shown
-from ..base.programs import find_program
+from ..base.programs import environment_of_called, find_program
 from ..base.trusted import MOST_WRITTEN, too_large
 from ..model import meta, overview, sources
 from ..model.everybody import ElseAnswers, SnapshotTexts, answers_over, beside, people_in, session_with, texts_with
@@ -218,7 +216,7 @@ def dim(line: bytes) -> bytes:
 
 def run_prompt(command: Command, program: str, source: Source, given: argparse.Namespace) -> int:
     """Answers a person's lines. Only a prompt needs these parts of the package."""
-    from ..model.superuser import Superusers, ids_in
+    from ..model.people import Superusers, ids_in
     from .completion import Completer, read_page
     from .prompt import WORDS_OF_PROMPT, Prompt, find_toolkit, reader
 

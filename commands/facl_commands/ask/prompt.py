@@ -8,13 +8,12 @@ import os
 import stat
 from typing import Any, Callable, Iterator, List, Optional, Sequence, Set
 
-from ..base.attempts import held
-from ..base.messages import Failure
+from ..base.messages import Failure, held
 from ..base.names import read_path, shown
 from ..base.trusted import PRIVATE, open_folder
 from ..model.everybody import ElseAnswers
 from ..model.marks import NO_MARKS, Marks
-from ..model.superuser import Superusers
+from ..model.people import Superusers
 from ..program.hints.hint import explained
 from ..program.protocol import IN_LINE, PROGRAM, UNKNOWN_TOOL, is_refused, lacking_file, lacks_file, message_of
 from ..program.scripts import LINE_LIMIT, WORD, Unit, is_empty, read_units, words_within

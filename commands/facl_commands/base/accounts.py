@@ -12,8 +12,3 @@ PEOPLE = f"ids from {FIRST_PERSON} to {LAST_PERSON}, and above {LAST_OF_SYSTEM}"
 
 def is_person(uid: int) -> bool:
     return FIRST_PERSON <= uid <= LAST_PERSON or uid > LAST_OF_SYSTEM
-
-
-def is_of_system(uid: int) -> bool:
-    """Whether a user is neither a person nor the superuser."""
-    return uid != SUPERUSER and not is_person(uid)

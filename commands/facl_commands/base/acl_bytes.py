@@ -1,7 +1,6 @@
 """Access control lists as the bytes of their extended attributes (acl(5), xattr(7)); all numbers are little-endian.
 
-The program makes the bytes of new lists. Here they are only read, to be compared, and a list is made that grants no
-more than two others.
+The program makes the bytes of new lists. Here they are read and compared, and a list is made that grants no more than two others.
 """
 from __future__ import annotations
 
@@ -39,14 +38,12 @@ def entries_of(data: bytes) -> Entries:
     """The entries of a list; struct.error where the bytes are none."""
     if data[:4] != HEAD:
         raise struct.error("not the version 2")
-    return {(tag, number if tag in NAMED else NO_ID): permissions for tag, permissions,
-            number in ENTRY.iter_unpack(data[4:])}
+    return {(tag, number if tag in NAMED else NO_ID): permissions for tag, permissions, number in ENTRY.iter_unpack(data[4:])}
 
 
 def bytes_of(entries: Entries) -> bytes:
     """A list in the order of its keys, as the program and libacl write it."""
-    return HEAD + b"".join(ENTRY.pack(tag, permissions, number) for (tag, number),
-                           permissions in sorted(entries.items()))
+    return HEAD + b"".join(ENTRY.pack(tag, permissions, number) for (tag, number), permissions in sorted(entries.items()))
 
 
 @lru_cache(maxsize=MOST_KEPT)
@@ -57,12 +54,12 @@ def is_valid(data: bytes) -> bool:
     except struct.error:
         return False
     tags = [tag for tag, _ in entries]
-    has_named = any(tag in NAMED for tag in tags)
     return (bytes_of(entries) == data and all(tags.count(tag) == 1 for tag in ALONE) and {*tags} <= {*ALONE, *NAMED, MASK}
-            and (MASK in tags or not has_named) and max(entries.values()) <= 7
+            and (MASK in tags or not {*NAMED} & {*tags}) and max(entries.values()) <= 7
             and all((number == NO_ID) == (tag not in NAMED) for tag, number in entries))
 
 
+@lru_cache(maxsize=MOST_KEPT)
 def canonical(data: bytes) -> bytes:
     """A list of the system as the program would write it."""
     try:
@@ -71,30 +68,21 @@ def canonical(data: bytes) -> bytes:
         return data
 
 
+@lru_cache(maxsize=None)
 def minimal(mode: int) -> bytes:
     """The list of a mode."""
     return bytes_of({(USER_OBJ, NO_ID): mode >> 6 & 7, (GROUP_OBJ, NO_ID): mode >> 3 & 7, (OTHER, NO_ID): mode & 7})
 
 
-def mode_of(data: bytes) -> int:
-    """The mode of a list of three entries."""
-    entries = entries_of(data)
-    return sum(entries[tag, NO_ID] << shift for tag, shift in ((USER_OBJ, 6), (GROUP_OBJ, 3), (OTHER, 0)))
-
-
 def permissions_of(data: bytes) -> int:
     """The permissions of the mode of a file with this list: those of the group are the mask's where there is one."""
     entries = entries_of(data)
-    middle = entries[(MASK if (MASK, NO_ID) in entries else GROUP_OBJ), NO_ID]
+    middle = entries.get((MASK, NO_ID), entries[GROUP_OBJ, NO_ID])
     return entries[USER_OBJ, NO_ID] << 6 | middle << 3 | entries[OTHER, NO_ID]
 
 
 def is_minimal(data: bytes) -> bool:
     return len(data) == len(HEAD) + 3 * ENTRY.size
-
-
-def owner_permissions(data: bytes) -> int:
-    return entries_of(data)[USER_OBJ, NO_ID]
 
 
 def effective(entries: Entries) -> Entries:
@@ -118,7 +106,5 @@ def common(one: bytes, other: bytes) -> bytes:
 def changed(one: bytes, other: bytes) -> Iterator[Tuple[Key, Tuple[int, int]]]:
     """The keys of two lists that differ, each with its permissions in both, -1 where a list lacks it."""
     first, second = entries_of(one) if one else {}, entries_of(other) if other else {}
-    for key in sorted({**first, **second}):
-        both = first.get(key, -1), second.get(key, -1)
-        if both[0] != both[1]:
-            yield key, both
+    both = ((key, (first.get(key, -1), second.get(key, -1))) for key in sorted({**first, **second}))
+    return ((key, (before, after)) for key, (before, after) in both if before != after)

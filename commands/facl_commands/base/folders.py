@@ -14,8 +14,7 @@ import stat
 from typing import Dict, Iterator, List, NamedTuple, Optional, Tuple
 
 from . import beside, scratch, trusted
-from .attempts import failing, held
-from .messages import Failure
+from .messages import Failure, failing, held
 from .new_file import DIRECTORY
 
 TEXTS = (b"passwd", b"group", b"dump")  # Which the program loads.
@@ -136,10 +135,9 @@ class Folder:
 def parts_in(folder: int) -> List[bytes]:
     """The names of the parts that an open folder has, by their numbers."""
     names = sorted((name for name in map(os.fsencode, os.listdir(folder)) if name.isdigit()), key=int)
-    try:
+    with contextlib.suppress(FileNotFoundError):  # A link to nothing, or it was removed.
         return names if FIRST in names and stat.S_ISDIR(os.stat(FIRST, dir_fd=folder).st_mode) else []
-    except FileNotFoundError:  # A link to nothing, or it was removed.
-        return []
+    return []
 
 
 def remove_snapshot(name: bytes, above: int) -> bool:
@@ -203,15 +201,12 @@ class Kept:
         return found
 
     def opened(self, name: bytes) -> Folder:
-        found = open_folder(name, self.above(name))
+        part = os.path.basename(name)
+        above = next((it for it in self.folders.values() if part in it.parts and it.path(part) == name), None)
+        found = open_folder(name, above)
         if self.states.setdefault(name, found.state) != found.state:
             raise Failure(name + EXCHANGED)
         return found
-
-    def above(self, name: bytes) -> Optional[Folder]:
-        """The open folder that has this one as a part."""
-        part = os.path.basename(name)
-        return next((it for it in self.folders.values() if part in it.parts and it.path(part) == name), None)
 
 
 KEPT: List[Kept] = []  # At most one.
@@ -220,14 +215,11 @@ KEPT: List[Kept] = []  # At most one.
 @contextlib.contextmanager
 def kept() -> Iterator[None]:
     """Has each folder opened once, as long as this goes on."""
-    if KEPT:
-        yield
-        return
-    KEPT.append(Kept())
+    before, KEPT[:] = KEPT[:], KEPT or [Kept()]
     try:
         yield
     finally:
-        KEPT.pop()
+        KEPT[:] = before
 
 
 def keep(folder: Folder) -> None:
@@ -242,9 +234,7 @@ def folder_of(name: bytes) -> Folder:
 
 def is_folder(name: bytes) -> bool:
     """Whether there is a folder, or it cannot be seen what is there."""
-    if KEPT and name in KEPT[0].folders:
-        return True
     try:
-        return stat.S_ISDIR(os.stat(name).st_mode)
+        return bool(KEPT) and name in KEPT[0].folders or stat.S_ISDIR(os.stat(name).st_mode)
     except OSError as error:
         return isinstance(error, PermissionError)

@@ -8,7 +8,8 @@ import os
 import signal
 import stat
 import struct
-from typing import Dict, NamedTuple, Set, Tuple
+from functools import lru_cache
+from typing import NamedTuple, NoReturn, Set, Tuple
 
 LIBRARY = ctypes.CDLL(None, use_errno=True)
 AT_EMPTY_PATH, AT_SYMLINK_NOFOLLOW, AT_STATX_DONT_SYNC = 0x1000, 0x100, 0x4000
@@ -33,10 +34,7 @@ NO_DESCRIPTOR = -1
 PR_SET_PDEATHSIG = 1
 MOUNTS_FILE = "/proc/self/mountinfo"
 BOOT_FILE = "/proc/sys/kernel/random/boot_id"
-
-
-# Of a file: mode, owner, group, names, device, inode, and birth in nanoseconds since 1970, 0 where the file system has
-# none.
+# Of a file: mode, owner, group, names, device, inode, and birth in nanoseconds since 1970, 0 where the file system has none.
 Status = Tuple[int, int, int, int, int, int, int]
 Mount = Tuple[int, int]  # A device, and the number of the mount, which is 0 where Linux does not say it.
 # What Linux looks at beside the lists of a file: ATTRIBUTES that it has, or UNKNOWN; and what it is mounted by.
@@ -52,27 +50,13 @@ class Identity(NamedTuple):
     birth: int
 
 
-class DeviceNumbers(Dict[Tuple[int, int], int]):
-    """Device numbers by their two parts."""
-
-    def __missing__(self, parts: Tuple[int, int]) -> int:
-        self[parts] = os.makedev(*parts)
-        return self[parts]
+device_number = lru_cache(maxsize=None)(os.makedev)  # By its two parts.
 
 
-DEVICES = DeviceNumbers()
-
-
-class KeptBirths(Dict[Tuple[int, int], bool]):
-    """Whether files of a device keep their birth: on an overlay a file is copied when it is first changed, and gets
-    another one."""
-
-    def __missing__(self, parts: Tuple[int, int]) -> bool:
-        self[parts] = b"%d:%d" % parts not in overlays()
-        return self[parts]
-
-
-KEPT_BIRTHS = KeptBirths()
+@lru_cache(maxsize=None)
+def keeps_births(major: int, minor: int) -> bool:
+    """Whether files of a device keep their birth: on an overlay a file is copied when it is first changed, and gets another one."""
+    return b"%d:%d" % (major, minor) not in overlays()
 
 
 def file_system_of(descriptor: int) -> int:
@@ -99,6 +83,12 @@ def overlays() -> Set[bytes]:
     return {first.split()[2] for first, second in halves if second.split()[0] == b"overlay"}
 
 
+def fail(*name: str) -> NoReturn:
+    """Fails as the last call of the library did, of a file by its name."""
+    number = ctypes.get_errno()
+    raise OSError(number, os.strerror(number), *name)
+
+
 def statx(descriptor: int, name: bytes = b"", flags: int = ITSELF, wanted: int = STATX_WANTED) -> Raw:
     """The status of an open file, or of a name in an open directory, which is not followed where it is a link. Nothing is opened
     for it."""
@@ -107,15 +97,13 @@ def statx(descriptor: int, name: bytes = b"", flags: int = ITSELF, wanted: int =
         mount = MOUNT.pack(os.major(found.st_dev), os.minor(found.st_dev), 0)
         return 0, 0, found.st_nlink, LABEL.pack(found.st_uid, found.st_gid, found.st_mode), found.st_ino, 0, 0, 0, mount
     if STATX_CALL(descriptor, name, flags, wanted, BUFFER) != 0:
-        number = ctypes.get_errno()
-        raise OSError(number, os.strerror(number))
+        fail()
     return STATX.unpack_from(BUFFER)  # type: ignore[return-value]
 
 
 def keeps_birth(raw: Raw) -> bool:
     """Whether files of the device of a file keep their birth."""
-    major, minor, _ = MOUNT.unpack(raw[8])
-    return KEPT_BIRTHS[major, minor]
+    return keeps_births(*MOUNT.unpack(raw[8])[:2])
 
 
 def read_status(raw: Raw) -> Tuple[Status, Beside]:
@@ -123,12 +111,10 @@ def read_status(raw: Raw) -> Tuple[Status, Beside]:
     known, its, names, label, inode, says, seconds, nanoseconds, place = raw
     owner, group, mode = LABEL.unpack(label)
     major, minor, mount = MOUNT.unpack(place)
-    has_birth = known & STATX_BTIME and KEPT_BIRTHS[major, minor]
-    birth = seconds * 1_000_000_000 + nanoseconds if has_birth else 0
-    device = DEVICES[major, minor]
+    birth = seconds * 1_000_000_000 + nanoseconds if known & STATX_BTIME and keeps_births(major, minor) else 0
+    device = device_number(major, minor)
     attributes = its & ATTRIBUTES if says & ATTRIBUTES == ATTRIBUTES else UNKNOWN
-    return ((mode, owner, group, names, device, inode, birth),
-            (attributes, (device, mount if known & STATX_MNT_ID else 0)))
+    return (mode, owner, group, names, device, inode, birth), (attributes, (device, mount if known & STATX_MNT_ID else 0))
 
 
 def look_at(descriptor: int, name: bytes = b"") -> Tuple[Status, Beside]:
@@ -146,26 +132,32 @@ def matches(pattern: bytes, name: bytes) -> bool:
     return bool(LIBRARY.fnmatch(pattern, name, 0) == 0)
 
 
-def is_renamed(old: bytes, source: int, new: bytes, target: int) -> bool:
-    """Renames from a folder to another one, by their descriptors; fails where there is something of the new name. False where
-    the file system has no such rename."""
+def is_renamed(old: bytes, source: int, new: bytes, target: int, how: int = RENAME_NOREPLACE) -> bool:
+    """Renames from a folder to another one, by their descriptors: fails where there is something of the new name, or has the two
+    names change places. False where the file system has no such rename."""
     if not hasattr(LIBRARY, "renameat2"):
         return False
-    if LIBRARY.renameat2(source, old, target, new, RENAME_NOREPLACE) == 0:
+    if LIBRARY.renameat2(source, old, target, new, how) == 0:
         return True
-    number = ctypes.get_errno()
-    if number not in (errno.EINVAL, errno.ENOSYS):
-        raise OSError(number, os.strerror(number), os.fsdecode(new))
+    if ctypes.get_errno() not in (errno.EINVAL, errno.ENOSYS):
+        fail(os.fsdecode(new))
     return False
+
+
+def rename_to(old: bytes, source: int, new: bytes, target: int) -> None:
+    """Renames where there is nothing of the new name, as far as it can be seen before."""
+    try:
+        os.stat(new, dir_fd=target, follow_symlinks=False)
+    except FileNotFoundError:
+        os.rename(old, new, src_dir_fd=source, dst_dir_fd=target)
+        return
+    raise FileExistsError(errno.EEXIST, os.strerror(errno.EEXIST), os.fsdecode(new))
 
 
 def rename_new(old: bytes, new: bytes, folder: int) -> None:
     """Renames within a folder, by its descriptor; fails where there is something of the new name."""
-    if is_renamed(old, folder, new, folder):
-        return
-    if new in map(os.fsencode, os.listdir(folder)):
-        raise FileExistsError(errno.EEXIST, os.strerror(errno.EEXIST), os.fsdecode(new))
-    os.rename(old, new, src_dir_fd=folder, dst_dir_fd=folder)
+    if not is_renamed(old, folder, new, folder):
+        rename_to(old, folder, new, folder)
 
 
 def move(name: bytes, source: int, target: int) -> None:
@@ -174,26 +166,17 @@ def move(name: bytes, source: int, target: int) -> None:
     more than an empty one that is made at that moment."""
     if is_renamed(name, source, name, target):
         return
-    if not stat.S_ISDIR(os.stat(name, dir_fd=source, follow_symlinks=False).st_mode):
+    if stat.S_ISDIR(os.stat(name, dir_fd=source, follow_symlinks=False).st_mode):
+        rename_to(name, source, name, target)
+    else:
         os.link(name, name, src_dir_fd=source, dst_dir_fd=target, follow_symlinks=False)
         os.unlink(name, dir_fd=source)
-        return
-    try:
-        os.stat(name, dir_fd=target, follow_symlinks=False)
-    except FileNotFoundError:
-        os.rename(name, name, src_dir_fd=source, dst_dir_fd=target)
-        return
-    raise FileExistsError(errno.EEXIST, os.strerror(errno.EEXIST), os.fsdecode(name))
 
 
 def exchange(made: bytes, there: bytes, folder: int) -> None:
     """Has two names of a folder change places; by three renames where its file system cannot."""
-    if hasattr(LIBRARY, "renameat2"):
-        if LIBRARY.renameat2(folder, made, folder, there, RENAME_EXCHANGE) == 0:
-            return
-        number = ctypes.get_errno()
-        if number not in (errno.EINVAL, errno.ENOSYS):
-            raise OSError(number, os.strerror(number), os.fsdecode(there))
+    if is_renamed(made, folder, there, folder, RENAME_EXCHANGE):
+        return
     aside = made + b".old"
     rename_new(there, aside, folder)
     try:
@@ -209,7 +192,7 @@ def write_out(descriptor: int) -> None:
     if descriptor == NO_DESCRIPTOR or not hasattr(LIBRARY, "syncfs"):
         os.sync()
     elif LIBRARY.syncfs(descriptor) != 0:
-        raise OSError(ctypes.get_errno(), os.strerror(ctypes.get_errno()))
+        fail()
 
 
 def end_with(parent: int) -> None:

@@ -8,19 +8,18 @@ from __future__ import annotations
 import errno
 import os
 import stat
+from functools import lru_cache
 from typing import Dict, List, NamedTuple, Optional, Tuple
 
 from . import acl_bytes, linux
 from .acl_bytes import Record
 from .linux import Beside, Identity
-from .messages import Failure, reason
+from .messages import failing, held, reason
 
 PROC = b"/proc/self/fd/"
 OPEN_LIMIT = 200  # Directories of one path that are open at once.
 CAPABILITY = b"security.capability"
 FLAGS = stat.S_ISUID | stat.S_ISGID | stat.S_ISVTX
-ALL_MODE = FLAGS | 0o777
-NO_ATTRIBUTE = (errno.ENODATA, errno.ENOTSUP)
 PATH = os.O_PATH | os.O_NOFOLLOW | os.O_CLOEXEC
 
 
@@ -65,39 +64,20 @@ class Places(Dict[int, bytes]):
 PLACES = Places()
 
 
-class KnownLists(Dict[bytes, bytes]):
-    """Lists of the system, as they are compared."""
-
-    def __missing__(self, data: bytes) -> bytes:
-        self[data] = acl_bytes.canonical(data)
-        return self[data]
-
-
-class KnownRecords(Dict[Tuple[int, int, int, Optional[bytes], Optional[bytes]], Record]):
-    """Records by mode, owner, group and the two lists, as the system has them; each is one value."""
-
-    def __missing__(self, label: Tuple[int, int, int, Optional[bytes], Optional[bytes]]) -> Record:
-        mode, owner, group, access, default = label
-        self[label] = Record(owner, group, mode & FLAGS, MINIMAL[mode & 0o777] if access is None else LISTS[access],
-                             b"" if default is None else LISTS[default])
-        return self[label]
+@lru_cache(maxsize=None)
+def known_record(mode: int, owner: int, group: int, access: Optional[bytes], default: Optional[bytes]) -> Record:
+    """The record of a mode, owner, group and the two lists, as the system has them; each is one value."""
+    lists = acl_bytes.minimal(mode & 0o777) if access is None else acl_bytes.canonical(access), acl_bytes.canonical(default or b"")
+    return Record(owner, group, mode & FLAGS, *lists)
 
 
-class KnownStatuses(Dict[Tuple[int, int, bytes, int, bytes], Tuple[int, int, int, int, bool, Beside]]):
+@lru_cache(maxsize=None)
+def common_of(known: int, attributes: int, label: bytes, says: int, mount: bytes) -> Tuple[int, int, int, int, bool, Beside]:
     """What files with an owner, a group and a mode on one mount have in common, by these parts of a raw status: mode, owner, group,
     device, whether their birth is known, and what counts beside their lists."""
-
-    def __missing__(self, its: Tuple[int, int, bytes, int, bytes]) -> Tuple[int, int, int, int, bool, Beside]:
-        known, attributes, label, says, mount = its
-        raw = known, attributes, 0, label, 0, says, 0, 0, mount
-        (mode, owner, group, _, device, _, _), beside = linux.read_status(raw)
-        has_birth = bool(known & linux.STATX_BTIME) and linux.keeps_birth(raw)
-        self[its] = mode, owner, group, device, has_birth, beside
-        return self[its]
-
-
-LISTS, RECORDS, COMMON = KnownLists(), KnownRecords(), KnownStatuses()
-MINIMAL = [acl_bytes.minimal(mode) for mode in range(0o1000)]
+    raw = known, attributes, 0, label, 0, says, 0, 0, mount
+    (mode, owner, group, _, device, _, _), beside = linux.read_status(raw)
+    return mode, owner, group, device, bool(known & linux.STATX_BTIME) and linux.keeps_birth(raw), beside
 
 
 def attribute(name: bytes, attribute_name: bytes, follow: bool = True) -> Optional[bytes]:
@@ -105,7 +85,7 @@ def attribute(name: bytes, attribute_name: bytes, follow: bool = True) -> Option
     try:
         return os.getxattr(name, attribute_name, follow_symlinks=follow)
     except OSError as error:
-        if error.errno not in NO_ATTRIBUTE:
+        if error.errno not in (errno.ENODATA, errno.ENOTSUP):
             raise
         return None
 
@@ -116,13 +96,13 @@ def record_of(mode: int, owner: int, group: int, name: bytes, follow: bool = Tru
         raise NotFound(b"is a symbolic link now")
     access = attribute(name, acl_bytes.ACCESS, follow)
     default = attribute(name, acl_bytes.DEFAULT, follow) if stat.S_ISDIR(mode) else None
-    return RECORDS[mode & ALL_MODE, owner, group, access, default]
+    return known_record(mode & (FLAGS | 0o777), owner, group, access, default)
 
 
 def look_by(descriptor: int, name: bytes, place: bytes, follow: bool = True) -> Seen:
     """An open file, or what has a name in an open directory; a place leads to its lists."""
     known, its, names, label, inode, says, seconds, nanoseconds, mount = linux.statx(descriptor, name)
-    mode, owner, group, device, has_birth, beside = COMMON[known, its, label, says, mount]
+    mode, owner, group, device, has_birth, beside = common_of(known, its, label, says, mount)
     identity = Identity(device, inode, seconds * 1_000_000_000 + nanoseconds if has_birth else 0)
     return Seen(identity, mode, names, record_of(mode, owner, group, place, follow), beside)
 
@@ -170,7 +150,7 @@ class OpenFile:
         except OSError as error:
             if error.errno != errno.ENOTSUP or not acl_bytes.is_minimal(data):
                 raise
-            self.set_mode(self.mode() & FLAGS | acl_bytes.mode_of(data))
+            self.set_mode(self.mode() & FLAGS | acl_bytes.permissions_of(data))
 
     def set_attribute(self, attribute_name: bytes, data: bytes) -> None:
         os.setxattr(self.name, attribute_name, data)
@@ -213,35 +193,20 @@ class Opener:
             if self.open_ones:
                 os.close(self.open_ones.pop())
 
-    def last(self) -> int:
-        return self.open_ones[-1] if self.open_ones else self.root
-
-    def push(self, part: bytes) -> None:
-        descriptor = open_part(self.last(), part)
-        self.parts.append(part)
-        self.open_ones.append(descriptor)
-        if len(self.open_ones) > OPEN_LIMIT:
-            os.close(self.open_ones.pop(0))
-
     def folder(self, path: bytes) -> int:
         """Opens a directory."""
         if path != self.above:
-            self.above = None
-            self.go_to(path.split(b"/") if path else [])
+            self.above, parts = None, path.split(b"/") if path else []
+            self.close_to(len(os.path.commonprefix([self.parts, parts])))
+            if self.parts and not self.open_ones:  # It is too far from the directories that are open.
+                self.parts = []
+            for part in parts[len(self.parts) :]:
+                self.open_ones.append(open_part(self.open_ones[-1] if self.open_ones else self.root, part))
+                self.parts.append(part)
+                if len(self.open_ones) > OPEN_LIMIT:
+                    os.close(self.open_ones.pop(0))
             self.above = path
-        return self.last()
-
-    def go_to(self, parts: List[bytes]) -> None:
-        depth = 0
-        for one, other in zip(self.parts, parts):
-            if one != other:
-                break
-            depth += 1
-        self.close_to(depth)
-        if self.parts and not self.open_ones:  # It is too far from the directories that are open.
-            self.parts = []
-        for part in parts[len(self.parts) :]:
-            self.push(part)
+        return self.open_ones[-1] if self.open_ones else self.root
 
     def open(self, path: bytes) -> OpenFile:
         """Opens a file, or the link that is there; NotFound where the path leads to none, or through a link."""
@@ -279,11 +244,6 @@ def open_part(folder: int, part: bytes) -> int:
 
 def check_proc() -> None:
     """Fails where files cannot be reached by their descriptors."""
-    descriptor = os.open(b"/", PATH)
-    try:
+    with failing(b"/proc is not mounted, by which files are reached"), held(os.open(b"/", PATH)) as descriptor:
         if os.stat(PROC + b"%d" % descriptor).st_ino != os.fstat(descriptor).st_ino:
             raise FileNotFoundError
-    except OSError as error:
-        raise Failure(b"/proc is not mounted, by which files are reached") from error
-    finally:
-        os.close(descriptor)

@@ -20,6 +20,24 @@ SIGNALS = (signal.SIGHUP, signal.SIGINT, signal.SIGQUIT, signal.SIGUSR1, signal.
            signal.SIGTERM)  # Each ends a command, and leaves nothing behind.
 
 
+@contextlib.contextmanager
+def failing(text: bytes, gives_reason: bool = False) -> Iterator[None]:
+    """Has a call of the system that fails end the command with this text, and with the reason of the system where it is given."""
+    try:
+        yield
+    except OSError as error:
+        raise Failure(text + (b": " + reason(error)) * gives_reason) from error
+
+
+@contextlib.contextmanager
+def held(descriptor: int) -> Iterator[int]:
+    """Closes a descriptor at the end."""
+    try:
+        yield descriptor
+    finally:
+        os.close(descriptor)
+
+
 def parser_of(name: str, description: str, status: str) -> argparse.ArgumentParser:
     """What reads the words of a command; they may not be cut short."""
     parser = argparse.ArgumentParser(prog=name, description=description, epilog=status, allow_abbrev=False,
@@ -106,7 +124,7 @@ class Command:
             else:
                 stream.write(text)
         except OSError as error:
-            drop(stream)
+            os.dup2(os.open(os.devnull, os.O_WRONLY), stream.fileno())  # What is kept, and all that follows, is dropped.
             if not self.goes_on:
                 raise
             self.fault = self.fault or error
@@ -114,7 +132,15 @@ class Command:
     def status_of(self, body: Callable[[Command, List[str]], int], words: List[str]) -> int:
         """Runs the command, and returns its exit status."""
         try:
-            status = self.result_of(body, words)
+            try:
+                status = body(self, words)
+                self.flush()
+            except Failure as failure:
+                self.say(failure.text)
+                status = failure.status
+            except SystemExit as ended:  # By argparse, which has printed its help or a usage line.
+                sys.stdout.flush()
+                status = ended.code if isinstance(ended.code, int) else UNUSABLE
         except BrokenPipeError:
             return UNUSABLE if self.goes_on else 128 + signal.SIGPIPE
         except (OSError, MemoryError) as error:
@@ -124,23 +150,6 @@ class Command:
         except (Interrupted, KeyboardInterrupt) as error:
             return 128 + (error.number if isinstance(error, Interrupted) else signal.SIGINT)
         return NOT_SAID if status == 0 and self.fault is not None else status
-
-    def result_of(self, body: Callable[[Command, List[str]], int], words: List[str]) -> int:
-        try:
-            status = body(self, words)
-            self.flush()
-            return status
-        except Failure as failure:
-            self.say(failure.text)
-            return failure.status
-        except SystemExit as ended:  # By argparse, which has printed its help or a usage line.
-            sys.stdout.flush()
-            return ended.code if isinstance(ended.code, int) else UNUSABLE
-
-
-def drop(stream: IO[bytes]) -> None:
-    """Lets go of what a stream has kept: it could not be written, and all that follows is dropped too."""
-    os.dup2(os.open(os.devnull, os.O_WRONLY), stream.fileno())
 
 
 def interrupt(number: int, _frame: Optional[FrameType]) -> None:
@@ -172,14 +181,6 @@ def open_streams() -> None:
     sys.stderr = sys.stderr or open(2, "w", closefd=False)
 
 
-def end(status: int) -> NoReturn:
-    """Ends without a word of Python on streams that cannot be written."""
-    for stream in (sys.stdout, sys.stderr):
-        with contextlib.suppress(OSError):
-            stream.flush()
-    os._exit(status)
-
-
 def run(name: str, body: Callable[[Command, List[str]], int], goes_on: bool = False) -> NoReturn:
     """Runs the command of this name, and ends with its status."""
     open_streams()
@@ -191,4 +192,7 @@ def run(name: str, body: Callable[[Command, List[str]], int], goes_on: bool = Fa
         status = Command(name, goes_on).status_of(body, sys.argv[1:])
     except Interrupted as ended:  # Before the command could begin.
         status = 128 + ended.number
-    end(status)
+    for stream in (sys.stdout, sys.stderr):
+        with contextlib.suppress(OSError):
+            stream.flush()
+    os._exit(status)  # Without a word of Python on streams that cannot be written.

@@ -1,5 +1,4 @@
-"""Names of files and users in texts: their escapes, as the section SCRIPTS of the manual page has them, and their
-quotes.
+"""Names of files and users in texts: their escapes, as the section SCRIPTS of the manual page has them, and their quotes.
 
 A path is its components with a slash between each two, as bytes; the root is the empty path.
 """
@@ -172,15 +171,12 @@ def json_name(name: bytes) -> str:
     return json_text(write_name(name))
 
 
-def escaped_letter(found: Match[str]) -> str:
-    """The bytes of a letter, as escapes."""
-    return "".join("\\%03o" % byte for byte in found[0].encode())
-
-
 def shown(text: bytes) -> bytes:
     """What a person reads of a text: bytes that are no UTF-8, and letters that cannot be seen, control a terminal or change
     the direction of a text, are escapes."""
-    return text if SAFE.match(text) else UNSEEN.sub(escaped_letter, json_text(text)).encode()
+    def escapes(letter: Match[str]) -> str:
+        return "".join("\\%03o" % byte for byte in letter[0].encode())
+    return text if SAFE.match(text) else UNSEEN.sub(escapes, json_text(text)).encode()
 
 
 def path_word(path: bytes) -> bytes:

@@ -8,8 +8,7 @@ import os
 import signal
 
 from . import acl_bytes, linux, trusted
-from .attempts import failing
-from .messages import SIGNALS, Failure, reason
+from .messages import SIGNALS, Failure, failing, reason
 from .trusted import PRIVATE
 
 DIRECTORY = os.O_RDONLY | os.O_DIRECTORY | os.O_NOFOLLOW | os.O_CLOEXEC
@@ -98,21 +97,11 @@ class NewFile:
             self.give_name(made)
         except BaseException as error:
             signal.pthread_sigmask(signal.SIG_BLOCK, SIGNALS)
-            self.remove(made)
+            with contextlib.suppress(FileNotFoundError):
+                os.unlink(made, dir_fd=self.folder)
             if isinstance(error, OSError):
                 raise Failure(self.name + b": " + reason(error)) from error
             raise
 
     def give_name(self, made: bytes) -> None:
-        """Gives the file its name; by a link where the file system has no rename that replaces nothing."""
-        try:
-            linux.rename_new(made, self.last, self.folder)
-        except OSError as error:
-            if error.errno not in (errno.EINVAL, errno.ENOSYS):
-                raise
-            os.link(made, self.last, src_dir_fd=self.folder, dst_dir_fd=self.folder, follow_symlinks=False)
-            os.unlink(made, dir_fd=self.folder)
-
-    def remove(self, made: bytes) -> None:
-        with contextlib.suppress(FileNotFoundError):
-            os.unlink(made, dir_fd=self.folder)
+        linux.rename_new(made, self.last, self.folder)

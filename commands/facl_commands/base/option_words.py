@@ -9,12 +9,8 @@ NO_OPTION, TAKES_A_WORD = ": is not an option", ": takes a word"
 Values = Dict[str, List[str]]  # By each option, those that it came with, which are empty of one that takes none.
 
 
-def no_fault(_option: str, _value: str) -> str:
-    return ""
-
-
 def read_options(words: List[str], taking: Sequence[str], alone: Sequence[str], fail: Callable[[str, str], Failure],
-                 fault_of: Callable[[str, str], str] = no_fault) -> Tuple[Values, List[str]]:
+                 fault_of: Callable[[str, str], str] = lambda *_: "") -> Tuple[Values, List[str]]:
     """The values of the options at the begin of some words, and the words after them. An option of `taking` has its value after a
     sign, or as the next word, in which `fault_of` finds what is wrong. `fail` gets a word and what is wrong with it."""
     values: Values = {option: [] for option in (*taking, *alone)}

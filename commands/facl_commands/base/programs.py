@@ -1,14 +1,22 @@
-"""Which program a command asks, and where it is: facl_linux, whose judge is what Linux grants, or facl, whose judge is acl(5)'s
-check."""
+"""Where the commands are, and which program they ask: facl_linux, by what Linux grants, or facl, by the check of acl(5)."""
 from __future__ import annotations
 
 import argparse
 import os
 import shutil
-from typing import List, NamedTuple, Optional
+from typing import Dict, List, NamedTuple, Optional
 
-from .environment import HOME
 from .messages import Failure
+
+
+# What would have a called program take other words, or read other files, than it is given.
+LEFT_OUT = ("POSIXLY_CORRECT", "PYTHONPATH", "PYTHONHOME", "PERL5LIB", "PERL5OPT")
+PART = "answer-part"  # The word by which another machine's facl answers a script: ask/parts/runs.py; nobody types it.
+HOME = os.path.dirname(os.path.dirname(os.path.dirname(os.path.realpath(__file__))))  # commands/, or PREFIX/libexec/facl.
+
+
+def environment_of_called() -> Dict[str, str]:
+    return {name: value for name, value in os.environ.items() if name not in LEFT_OUT}
 
 
 class KnownProgram(NamedTuple):

@@ -10,8 +10,7 @@ import os
 import secrets
 from typing import IO
 
-from .attempts import held
-from .messages import Failure, reason, signals_wait
+from .messages import Failure, held, reason, signals_wait
 from .new_file import create
 from .trusted import open_folder
 

@@ -16,10 +16,9 @@ from functools import partial
 from typing import Dict, Iterator, List, Mapping, NamedTuple, Optional, Sequence
 
 from .. import VERSION
-from .environment import environment_of_called
 from .messages import Command, Failure
 from .names import shown
-from .programs import judge_word
+from .programs import environment_of_called, judge_word
 from .progress import AT
 
 GAP = "  "  # Between two columns.
@@ -47,8 +46,7 @@ def add_output(parser: argparse.ArgumentParser) -> None:
     """Takes --json, --tsv and --no-pager."""
     form = parser.add_mutually_exclusive_group()
     form.add_argument("--json", action="store_true", help="print one object; the manual page has its schema")
-    form.add_argument("--tsv", action="store_true",
-                      help="print rows of fields with tabs between them, with the titles first")
+    form.add_argument("--tsv", action="store_true", help="print rows of fields with tabs between them, with the titles first")
     parser.add_argument("--no-pager", action="store_true", help="print a long text as it is, also at a terminal")
 
 
@@ -112,11 +110,6 @@ def cut(text: str, width: int) -> str:
     return (text[:first] + MIDDLE + text[len(text) - last :])[: max(width, 0)]
 
 
-def cell_of(field: bytes) -> str:
-    """A field as a person reads it."""
-    return shown(field).decode().replace("\t", "\\011")
-
-
 def fitting(widths: List[int], columns: Sequence[Column], room: int) -> List[int]:
     """The widths of columns in so much room: the widest texts are cut to one width."""
     room -= len(GAP) * (len(widths) - 1) + sum(it for it, column in zip(widths, columns) if column.is_number)
@@ -138,9 +131,9 @@ def aligned(cells: Sequence[str], columns: Sequence[Column], widths: Sequence[in
 
 
 def write_rows(command: Command, table: Table) -> None:
-    """Prints titles and rows below each other; at a terminal each is one line, of which a narrow one has the
-    beginning."""
-    rows = [[column.title for column in table.columns], *([cell_of(field) for field in row] for row in table.rows)]
+    """Prints titles and rows below each other; at a terminal each is one line, of which a narrow one has the beginning."""
+    rows = [[column.title for column in table.columns],
+            *([shown(field).decode().replace("\t", "\\011") for field in row] for row in table.rows)]
     widths = [max(map(width_of, cells)) for cells in zip(*rows)]
     room = shutil.get_terminal_size().columns if is_terminal() else None
     widths = widths if room is None else fitting(widths, table.columns, room)
@@ -190,14 +183,11 @@ def pager_words() -> Optional[List[str]]:
     return [less, LESS] if less else None
 
 
-def is_lent() -> bool:
-    """Whether the caller has the rights of another user for this command alone."""
-    return os.getuid() != os.geteuid() or os.getgid() != os.getegid() or any(name in os.environ for name in LENT_BY)
-
-
 def environment_of_pager() -> Dict[str, str]:
-    """A pager from which a caller with lent rights cannot run or read anything else with them."""
-    return {"LESS": LESS[1:], **environment_of_called(), **({"LESSSECURE": "1"} if is_lent() else {})}
+    """A pager from which a caller with lent rights, those of another user for this command alone, cannot run or read else with
+    them."""
+    is_lent = os.getuid() != os.geteuid() or os.getgid() != os.getegid() or any(name in os.environ for name in LENT_BY)
+    return {"LESS": LESS[1:], **environment_of_called(), **({"LESSSECURE": "1"} if is_lent else {})}
 
 
 def is_shown_by_pager(text: bytes) -> bool:

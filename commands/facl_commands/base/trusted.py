@@ -13,11 +13,11 @@ import pwd
 import re
 import stat
 from copy import copy
+from functools import partial
 from typing import IO, List, Optional
 
 from . import acl_bytes
-from .attempts import failing
-from .messages import Failure, reason
+from .messages import Failure, failing, reason
 
 PRIVATE = 0o600
 MOST = 1 << 30  # Bytes of a text of a snapshot, or of a file of a plan: a dump that the program loads has a quarter.
@@ -79,10 +79,13 @@ class Way:
 
     def __init__(self, name: bytes) -> None:
         self.name = name
-        self.links = 0
+        self.links = 0  # That were followed.
         self.open: List[int] = []  # The directories from the root on.
         self.shown: List[bytes] = []  # Their names.
         self.step(b"/")
+
+    def __del__(self) -> None:
+        self.close()
 
     def step(self, part: bytes) -> None:
         """Opens the next component, and looks at it; it may be a link."""
@@ -107,32 +110,24 @@ class Way:
         os.close(self.open.pop())
         self.shown.pop()
 
-    def target(self) -> Optional[bytes]:
-        """What the last component leads to where it is a link, which is taken off the way then."""
-        if not stat.S_ISLNK(os.fstat(self.open[-1]).st_mode):
-            return None
-        self.links += 1
-        if self.links > LINKS_LIMIT:
-            raise OSError(errno.ELOOP, os.strerror(errno.ELOOP))
-        target = os.readlink(b"", dir_fd=self.open[-1])
-        self.back()
-        return target
-
     def go(self, name: bytes) -> None:
-        """Goes on by a name."""
+        """Goes on by a name. Where a component is a link, it is taken off the way, which goes on by what it leads to."""
         rest = name.split(b"/")[::-1]
         while rest:
             part = rest.pop()
-            if part == b"..":
-                if len(self.open) > 1:
-                    self.back()
-            elif part not in (b"", b"."):
+            if part == b".." and len(self.open) > 1:
+                self.back()
+            elif part not in (b"", b".", b".."):
                 if not any(rest) and self.ends_before(part):
                     return
                 self.step(part)
-                target = self.target()
-                if target is not None:
+                if stat.S_ISLNK(os.fstat(self.open[-1]).st_mode):
+                    self.links += 1
+                    if self.links > LINKS_LIMIT:
+                        raise OSError(errno.ELOOP, os.strerror(errno.ELOOP))
+                    target = os.readlink(b"", dir_fd=self.open[-1])
                     rest += target.split(b"/")[::-1]
+                    self.back()
                     while target.startswith(b"/") and len(self.open) > 1:
                         self.back()
 
@@ -151,17 +146,14 @@ class Way:
     def copied(self) -> Way:
         """The same way, which can go on to something else."""
         other = copy(self)
-        other.open, other.shown = [*map(os.dup, self.open)], [*self.shown]
+        other.open, other.shown = [], [*self.shown]
+        other.open += map(os.dup, self.open)
         return other
 
     def gone_in(self, name: bytes, whole: bytes) -> Way:
-        """Goes on by a name in the last component, which messages name as a whole; closes the way where that fails."""
+        """Goes on by a name in the last component, which messages name as a whole."""
         self.name = whole
-        try:
-            self.go(name)
-        except BaseException:
-            self.close()
-            raise
+        self.go(name)
         return self
 
 
@@ -180,16 +172,13 @@ def open_trusted(name: bytes, flags: int) -> int:
 def open_beside(way: Way, name: bytes, whole: bytes) -> int:
     """Opens a file in the folder to which a way leads, which may be a link; FileNotFoundError where there is none. `whole` is its
     name in messages."""
-    other = way.copied()
     try:
-        descriptor = other.gone_in(name, whole).opened(os.O_RDONLY)
+        with contextlib.closing(way.copied()) as other:
+            return plain_file(other.gone_in(name, whole).opened(os.O_RDONLY), whole)
     except FileNotFoundError:
         raise
     except OSError as error:
         raise Failure(whole + b": " + reason(error)) from error
-    finally:
-        other.close()
-    return plain_file(descriptor, whole)
 
 
 def open_folder(name: bytes) -> int:
@@ -212,58 +201,71 @@ def plain_file(descriptor: int, name: bytes) -> int:
 
 def read_all(file: IO[bytes], shown: bytes, most: int) -> bytes:
     """What is in a file, which has a limit: its size may be any number, and it may grow."""
-    if os.fstat(file.fileno()).st_size > most:
-        raise too_large(shown, most)
-    pieces: List[bytes] = []
-    size = 0
-    while True:
+    pieces, size = [b""], os.fstat(file.fileno()).st_size
+    while size <= most:
         piece = file.read(PIECE)
         if piece is None:
             raise Failure(shown + b": has nothing to read yet: give a descriptor that waits")
         if not piece:
             return b"".join(pieces)
-        size += len(piece)
-        if size > most:
-            raise too_large(shown, most)
         pieces.append(piece)
+        size = sum(map(len, pieces))
+    raise too_large(shown, most)
 
 
 def too_large(shown: bytes, most: int) -> Failure:
     return Failure(shown + b": has more than %d MiB, which is too large" % (most >> 20))
 
 
-def read_trusted(name: bytes, most: int = MOST) -> bytes:
-    """What is in a file that nobody else can have written."""
-    with failing(name, True), open(open_file(name), "rb") as file:  # Of a folder, or of a disk, an error has no name.
-        return read_all(file, name, most)
-
-
 def read_given(name: bytes) -> bytes:
-    """The same of a word of the caller, which may be a descriptor that came with the command, as `<(COMMAND)` of a shell:
-    that is trusted as standard input is. The command's own descriptors are none of these."""
+    """What is in a file that nobody else can have written; a word of the caller may be a descriptor that came with the command, as
+    `<(COMMAND)` of a shell: that is trusted as standard input is. The command's own descriptors are none of these."""
     match = DESCRIPTOR.fullmatch(name)
-    if match is None:
-        return read_trusted(name, MOST_WRITTEN)
-    with failing(name, True):
+    with failing(name, True):  # Of a folder, or of a disk, an error has no name.
+        if match is None:
+            with open(open_file(name), "rb") as file:
+                return read_all(file, name, MOST_WRITTEN)
         if not os.get_inheritable(int(match[1])):
             raise OSError(errno.EBADF, os.strerror(errno.EBADF))
         with open(int(match[1]), "rb", closefd=False) as file:
             return read_all(file, name, MOST_WRITTEN)
 
 
-def open_in(folder: int, shown: bytes, name: bytes) -> int:
-    """Opens a file of an open folder; `shown` is the folder's name in messages."""
+def fault_of_mark(look: os.stat_result) -> Optional[bytes]:
+    """Why a plain file is none that a command of the caller made for itself, to believe it later; None if it can be one."""
+    mode = stat.S_IMODE(look.st_mode)
+    if look.st_uid != os.geteuid():
+        return b"belongs to " + owner_name(look.st_uid)
+    if look.st_nlink != 1:
+        return b"has another name too"
+    return None if mode == PRIVATE else b"has the mode %04o in place of %04o" % (mode, PRIVATE)
+
+
+def mark_failure(shown: bytes, name: bytes, fault: bytes) -> Failure:
+    return Failure(shown + b"/" + name + b": " + fault + b", so it is not trusted: look at it, and mend or remove it")
+
+
+def open_in(folder: int, shown: bytes, name: bytes, is_mark: bool = False) -> int:
+    """Opens a file of an open folder, whose name in messages is `shown`. A mark is a file that a command made for itself: a pipe
+    or device in its place is not opened."""
     with failing(shown + b"/" + name, True):
-        descriptor = os.open(name, os.O_RDONLY | os.O_NOFOLLOW | os.O_NONBLOCK | os.O_CLOEXEC, dir_fd=folder)
+        is_read = not is_mark or stat.S_ISREG(os.stat(name, dir_fd=folder, follow_symlinks=False).st_mode)
+        flags = (os.O_RDONLY if is_read else os.O_PATH) | os.O_NOFOLLOW | os.O_NONBLOCK | os.O_CLOEXEC
+        descriptor = os.open(name, flags, dir_fd=folder)
     look = os.fstat(descriptor)
-    fault = b"is not a regular file" if not stat.S_ISREG(look.st_mode) else fault_of(descriptor, look)
+    fault = (b"is not a regular file" if not stat.S_ISREG(look.st_mode) else
+             fault_of_mark(look) if is_mark else fault_of(descriptor, look))
     if fault is not None:
         os.close(descriptor)
-        raise Failure(shown + b"/" + name + b": " + fault + b", so it is not trusted")
+        failure = Failure(shown + b"/" + name + b": " + fault + b", so it is not trusted")
+        raise mark_failure(shown, name, fault) if is_mark else failure
     return descriptor
 
 
-def read_in(folder: int, shown: bytes, name: bytes) -> bytes:
-    """Returns what is in a file of an open folder."""
-    with open(open_in(folder, shown, name), "rb") as file:
+def read_in(folder: int, shown: bytes, name: bytes, is_mark: bool = False) -> bytes:
+    """What is in a file of an open folder."""
+    with open(open_in(folder, shown, name, is_mark), "rb") as file:
         return read_all(file, shown + b"/" + name, MOST)
+
+
+open_mark = partial(open_in, is_mark=True)

@@ -40,13 +40,10 @@ class PeopleChange(NamedTuple):
 
     def back(self) -> Optional[PeopleChange]:
         """What takes it back; None for a user that is removed, who does not come back."""
-        if self.kind == REMOVE_USER:
-            return None
-        if self.kind == ADD_USER:
-            return PeopleChange(REMOVE_USER, self.user, b"", self.user.gid)
-        if self.kind == CHANGE_GROUP:
-            return PeopleChange(CHANGE_GROUP, self.user._replace(gid=self.gid), b"", self.user.gid)
-        return self._replace(kind=MEMBERSHIPS[self.kind])
+        if self.kind in MEMBERSHIPS:
+            return self._replace(kind=MEMBERSHIPS[self.kind])
+        changed = {ADD_USER: (REMOVE_USER, self.user), CHANGE_GROUP: (CHANGE_GROUP, self.user._replace(gid=self.gid))}
+        return PeopleChange(*changed[self.kind], b"", self.user.gid) if self.kind in changed else None
 
     def not_done(self) -> Optional[bytes]:
         """Why no tool makes this change; None where one does."""

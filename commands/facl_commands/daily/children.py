@@ -8,8 +8,8 @@ import subprocess
 from types import FrameType
 from typing import IO, Dict, List, NamedTuple, Optional, Sequence
 
-from ..base.environment import HOME
 from ..base.messages import SIGNALS, Interrupted
+from ..base.programs import HOME
 
 SAID_LIMIT = 16 << 20  # Bytes that are kept of what a command prints.
 NAME = re.compile(rb"^facl-([a-z]+): ", re.MULTILINE)  # Of a command, before its messages.

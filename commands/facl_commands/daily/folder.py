@@ -25,10 +25,9 @@ import stat
 from itertools import count
 from typing import List, Optional
 
-from ..base import new_file, own_files, trusted
-from ..base.attempts import failing, held
+from ..base import new_file, trusted
 from ..base.folders import PART, remove_snapshot
-from ..base.messages import Failure
+from ..base.messages import Failure, failing, held
 from ..base.new_file import DIRECTORY, create, give_mode, is_there, make_directory
 from ..base.trusted import PRIVATE
 
@@ -70,7 +69,7 @@ class DailyFolder:
         try:
             descriptor = create(LOCK, self.descriptor)
         except FileExistsError:
-            descriptor = own_files.open_mark(self.descriptor, self.name, LOCK)
+            descriptor = trusted.open_mark(self.descriptor, self.name, LOCK)
             give_mode(descriptor, PRIVATE)  # The run that made it may have been killed before it did this.
         try:
             fcntl.flock(descriptor, fcntl.LOCK_EX | fcntl.LOCK_NB)
@@ -89,14 +88,14 @@ class DailyFolder:
         """The snapshots that were kept and are there, the oldest first."""
         if not is_there(MADE, self.descriptor):
             return []
-        with open(own_files.open_mark(self.descriptor, self.name, MADE), "rb") as file:
+        with open(trusted.open_mark(self.descriptor, self.name, MADE), "rb") as file:
             has_list, text = trusted.has_list(file.fileno()), file.read(LIST_LIMIT + 1)
         *lines, last = text.split(b"\n")
         wrong = next((number for number, line in enumerate(lines, 1) if not NAME.fullmatch(line)), 0)
         for is_fault, fault in ((has_list, b"has an ACL"), (len(text) > LIST_LIMIT, b"is too large"),
                                 (wrong, b"line %d is not the name of a snapshot" % wrong), (last, b"its last line has no end")):
             if is_fault:
-                raise own_files.mark_failure(self.name, MADE, fault)
+                raise trusted.mark_failure(self.name, MADE, fault)
         return [it for it in dict.fromkeys(lines) if self.own_folder(it) is not None]
 
     def new_name(self, day: bytes, names: List[bytes]) -> bytes:
@@ -122,7 +121,7 @@ class DailyFolder:
             if is_there(NEW, inside):
                 os.unlink(NEXT, dir_fd=inside)
             else:
-                os.close(own_files.open_mark(inside, self.name, NEXT))
+                os.close(trusted.open_mark(inside, self.name, NEXT))
                 self.put_list(inside)
 
     def begin(self) -> None:

@@ -3,7 +3,7 @@ from __future__ import annotations
 
 import argparse
 import os
-from typing import Callable, Dict, Iterable, Iterator, List, Optional, Set
+from typing import Callable, Dict, Iterable, Iterator, List, Set
 
 from ..base.accounts import PEOPLE, SUPERUSER, is_person
 from ..base.messages import Failure, counted
@@ -11,17 +11,13 @@ from ..base.names import live_name, path_word, read_name, read_path, write_user
 from ..program.protocol import LIST
 from ..program.session import Session
 from . import meta, sources
-from .people import rows_of
-from .superuser import ids_in, superusers_among
-
-MOST_NAMES = 5  # In a message.
+from .people import ids_in, rows_of, superusers_among
 
 
 def add_choice(parser: argparse.ArgumentParser, folders: str = "*", default: str = "all files") -> None:
     """Takes --all-users, --with-root and --file-alone; and FOLDERs, as many as the word for nargs says, or none. The
     default is what is looked at without a FOLDER, in the words of --help."""
-    parser.add_argument("--all-users", action="store_true",
-                        help=f"all users, and not people alone ({PEOPLE})")
+    parser.add_argument("--all-users", action="store_true", help=f"all users, and not people alone ({PEOPLE})")
     parser.add_argument("--with-root", action="store_true",
                         help="also the users of uid 0, to whom the kernel grants nearly everything")
     parser.add_argument("--file-alone", action="store_true",
@@ -36,8 +32,7 @@ def add_choice(parser: argparse.ArgumentParser, folders: str = "*", default: str
 
 def head_of(given: argparse.Namespace, folder: bytes, about: meta.Meta) -> Dict[str, object]:
     """What each object of JSON has first: the snapshot that it is of, and by which options."""
-    known = vars(given)
-    options = {name: bool(known[name]) for name in ("all_users", "with_root") if name in known}
+    options = {name: bool(value) for name, value in sorted(vars(given).items()) if name in ("all_users", "with_root")}
     return {"snapshot": meta.fields_of(folder, about), "options": {"along_paths": not given.file_alone, **options}}
 
 
@@ -45,9 +40,7 @@ def head_of(given: argparse.Namespace, folder: bytes, about: meta.Meta) -> Dict[
 
 
 def is_chosen(uid: int, given: argparse.Namespace) -> bool:
-    if uid == SUPERUSER:
-        return bool(given.with_root)
-    return bool(given.all_users) or is_person(uid)
+    return bool(given.with_root) if uid == SUPERUSER else bool(given.all_users) or is_person(uid)
 
 
 def kept(users: Iterable[bytes], given: argparse.Namespace, passwd: bytes) -> List[bytes]:
@@ -59,8 +52,7 @@ def kept(users: Iterable[bytes], given: argparse.Namespace, passwd: bytes) -> Li
 def notes(left_out: Iterable[bytes], passwd: bytes) -> Iterator[bytes]:
     """What is said of users who have something to be printed, and are left out; root alone needs no word."""
     users, superusers = list(left_out), superusers_among(ids_in(passwd).items())
-    roots = [user for user in users if read_name(user) in superusers]
-    accounts = [user for user in users if read_name(user) not in superusers]
+    accounts, roots = ([user for user in users if (read_name(user) in superusers) is is_root] for is_root in (False, True))
     if accounts:
         yield b"%s not shown (%s); --all-users shows %s" % (
             counted(len(accounts), "system account"), few(accounts), b"it" if len(accounts) == 1 else b"them")
@@ -69,8 +61,8 @@ def notes(left_out: Iterable[bytes], passwd: bytes) -> Iterator[bytes]:
 
 
 def few(names: List[bytes]) -> bytes:
-    """The first of some names."""
-    return b", ".join(names[:MOST_NAMES]) + (b" .." if len(names) > MOST_NAMES else b"")
+    """The first of some names, in a message."""
+    return b", ".join(names[:5]) + b" .." * (len(names) > 5)
 
 
 def in_order(users: Iterable[bytes], passwd: bytes) -> List[bytes]:
@@ -106,36 +98,32 @@ def folders_made_of(session: Session) -> List[bytes]:
     return found if len(found) == len(words) and found else sources.find_tops(session, session.folder)
 
 
-def folder_of(session: Session, word: bytes) -> bytes:
-    """The path of a word of a person."""
-    found = recorded_path(word, lambda path: is_recorded(session, path))
-    if found is not None:
-        return found
-    folders = folders_made_of(session)
-    about = b": the snapshot is of " + few(list(map(live_name, folders))) if folders else b": the snapshot has no files"
-    raise Failure(word + b": is not recorded" + about)
-
-
-def recorded_path(word: bytes, is_there: Callable[[bytes], bool]) -> Optional[bytes]:
+def recorded_path(word: bytes, is_there: Callable[[bytes], bool], about: Callable[[], bytes] = bytes) -> bytes:
+    """The path of a word of a person; fails where it is not there, with what is said about the snapshot."""
     refuse_empty(word)
-    return next((path for path in paths_of(word) if is_there(path)), None)
+    for path in filter(is_there, paths_of(word)):
+        return path
+    raise Failure(word + b": is not recorded" + about())
+
+
+def folder_of(session: Session, word: bytes) -> bytes:
+    """The path of a word of a person, in the snapshot of a session."""
+    def about() -> bytes:
+        folders = folders_made_of(session)
+        return b": the snapshot is of " + few(list(map(live_name, folders))) if folders else b": the snapshot has no files"
+    return recorded_path(word, lambda path: is_recorded(session, path), about)
 
 
 def folders_in(words: Iterable[str], recorded_of: Callable[[Set[bytes]], Set[bytes]]) -> List[bytes]:
-    """The paths of words of a person, in a snapshot that no session is over: recorded_of has those of some paths that it records."""
+    """The paths of words of a person, in a snapshot that no session is over: recorded_of has those that it records."""
     named = [*map(os.fsencode, words)]
     recorded = recorded_of({path for word in named for path in paths_of(word)}) if named else set()
-    found = [(word, recorded_path(word, recorded.__contains__)) for word in named]
-    for word, path in found:
-        if path is None:
-            raise Failure(word + b": is not recorded")
-    return [path for _, path in found if path is not None]
+    return [recorded_path(word, recorded.__contains__) for word in named]
 
 
 def folders_of(session: Session, words: Iterable[str]) -> List[bytes]:
     """The paths of some words; without words the tops of the snapshot, at or below which all files are."""
-    found = [folder_of(session, os.fsencode(word)) for word in words]
-    found = found or sources.find_tops(session, session.folder)
+    found = [folder_of(session, os.fsencode(word)) for word in words] or sources.find_tops(session, session.folder)
     if not found:
         raise Failure(b"the snapshot has no files; make one with facl snapshot")
     return found

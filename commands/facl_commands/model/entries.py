@@ -50,20 +50,18 @@ class ReadRecord(NamedTuple):
     access: Entries
     default: Entries
 
-    def permissions(self, tag: bytes) -> bytes:
-        """Those of an entry of the access list that names nobody."""
-        return next(it.permissions for it in self.access if it.key == (tag, b""))
-
-    def has_mask(self) -> bool:
-        return any(it.key[0] == MASK for it in self.access)
+    def permissions(self, *tags: bytes) -> bytes:
+        """Those of the entry of the access list that names nobody, of the first of some tags that has one; empty without one."""
+        found = {it.key[0]: it.permissions for it in self.access if not it.is_named()}
+        return next((found[tag] for tag in tags if tag in found), b"")
 
     def group_class(self) -> bytes:
         """The permissions in the second digit of the mode."""
-        return self.permissions(MASK if self.has_mask() else GROUP)
+        return self.permissions(MASK, GROUP)
 
     def has_empty_mask(self) -> bool:
         """Whether Linux looks at no entry of a user or a group."""
-        return self.has_mask() and self.permissions(MASK) == NOTHING
+        return self.permissions(MASK) == NOTHING
 
     def has_open_empty_mask(self) -> bool:
         """Whether Linux grants what others have to whom entries name, as the mask is empty."""

@@ -32,7 +32,7 @@ from .sources import DUMP, Source, dump_pieces, find_tops, operands_of
 SHOWN = b"everybody else"  # The program prints no name of a user with a blank.
 START = b"facl-everybody-else-"  # Of the name in questions.
 WORD = re.compile(b"(" + START + b"[0-9a-f]{8}):([0-9]{10})\\Z")
-IDS = 1_000_000_000, LAST_ID  # Between which the id is.
+FIRST_ID = 1_000_000_000  # Of those that it may have.
 DIRECTORY = re.compile(FREE_FILE_LINE + b"/")
 
 
@@ -49,15 +49,12 @@ class Everybody(NamedTuple):
     name: bytes  # Of both, as it is printed too.
     number: int  # The id of both.
 
-    def passwd(self) -> bytes:
-        return b"%s:x:%d:%d::/:\n" % (self.name, self.number, self.number)
-
     def with_user(self, passwd: bytes) -> bytes:
         """Rows with that of the user at the end, so that the others keep their places."""
-        return with_row(passwd, self.passwd())
+        return passwd + b"\n" * (passwd[-1:] not in (b"", b"\n")) + b"%s:x:%d:%d::/:\n" % (*self, self.number)
 
     def with_group(self, group: bytes) -> bytes:
-        return with_row(group, b"%s:x:%d:\n" % (self.name, self.number))
+        return group + b"\n" * (group[-1:] not in (b"", b"\n")) + b"%s:x:%d:\n" % self
 
     def with_both(self, texts: SnapshotTexts) -> SnapshotTexts:
         return SnapshotTexts(self.with_user(texts.passwd), self.with_group(texts.group))
@@ -66,25 +63,20 @@ class Everybody(NamedTuple):
         """What answers have for a user, by the name that the program prints."""
         return SHOWN if user == self.name else user
 
-    def is_in(self, text: bytes) -> bool:
-        return self.name in text or b"%d" % self.number in text
+    def is_in(self, texts: Iterable[bytes]) -> bool:
+        return any(self.name in text or b"%d" % self.number in text for text in texts)
 
     def word(self) -> bytes:
         """What another command is given, and read_everybody reads."""
         return b"%s:%d" % self
 
 
-def with_row(text: bytes, row: bytes) -> bytes:
-    return text + b"\n" * (text[-1:] not in (b"", b"\n")) + row
-
-
 def everybody_in(texts: Callable[[], Iterable[bytes]]) -> Everybody:
     """With a name and an id that are in none of some texts: users, groups, dumps, and lines that change them. They are made at
     random, since whoever names files could use all that can be known before."""
     while True:
-        number = IDS[0] + secrets.randbelow(IDS[1] - IDS[0])
-        found = Everybody(START + secrets.token_hex(4).encode(), number)
-        if not any(map(found.is_in, texts())):
+        found = Everybody(START + secrets.token_hex(4).encode(), FIRST_ID + secrets.randbelow(LAST_ID - FIRST_ID))
+        if not found.is_in(texts()):
             return found
 
 
@@ -94,7 +86,7 @@ def read_everybody(word: bytes, folder: bytes) -> Everybody:
     if match is None:
         raise Failure(word + b": is no name and id of everybody else")
     found = Everybody(match[1], int(match[2]))
-    if any(map(found.is_in, texts_in([folder]))):
+    if found.is_in(texts_in([folder])):
         raise Failure(folder + b": has the name or the id that was made for everybody else: ask again")
     return found
 
@@ -202,8 +194,8 @@ class World(NamedTuple):
 def texts_with(folder: bytes, passwd: bytes, group: bytes) -> Folder:
     """The dump of a snapshot, and other users and groups; messages name the snapshot."""
     texts = Folder(folder)
-    for name, text in zip(NEEDED, (passwd, group)):
-        texts.put(name, text)
+    texts.put(NEEDED[0], passwd)
+    texts.put(NEEDED[1], group)
     texts.share(DUMP, folder_of(folder))
     return texts
 

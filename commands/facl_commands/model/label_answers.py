@@ -67,18 +67,14 @@ class Vectors(NamedTuple):
     of_body: Dict[bytes, Vector]
 
 
-def vectors_by_body(session: Session, bodies: List[bytes]) -> Vectors:
-    """What an index has of the files of a dump of these bodies."""
-    table = session.ask_accepted(INDEX)
-    users = users_of(table)
-    return Vectors(users, dict(zip(bodies, vectors_of(table, users, len(bodies)))))
-
-
 def ask_vectors(program: str, people: PeopleTexts, bodies: List[bytes]) -> List[Vectors]:
     """Asks what all users may do with files that have these bodies, before the lines of people and after them."""
+    found = []
     with session_over(program, people.passwd, people.group, dump_of(bodies)) as session:
-        found = [vectors_by_body(session, bodies)]
-        if people.lines:
-            session.ask_accepted(people.lines.rstrip(b"\n"))
-            found.append(vectors_by_body(session, bodies))
-        return [found[0], found[-1]]
+        for lines in [b"", people.lines] if people.lines else [b""]:
+            if lines:
+                session.ask_accepted(lines.rstrip(b"\n"))
+            table = session.ask_accepted(INDEX)
+            users = users_of(table)
+            found.append(Vectors(users, dict(zip(bodies, vectors_of(table, users, len(bodies))))))
+    return [found[0], found[-1]]

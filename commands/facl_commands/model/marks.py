@@ -1,15 +1,19 @@
 """The marks of a snapshot: what Linux looks at beside the lists of a file, as facl-snapshot keeps it (base/beside.py)."""
 from __future__ import annotations
 
+import contextlib
+import re
 from collections import Counter
-from typing import Dict, Iterable, Iterator, List, Optional
+from typing import Callable, Dict, Iterable, Iterator, List, NamedTuple, Optional
 
 from ..base import beside
 from ..base.folders import folder_of
 from ..base.messages import counted
-from ..base.names import at_or_below, directories_above, parent_of, read_path
-from . import meta, split_tree
-from .records import ChangedPaths
+from ..base.names import at_or_below, directories_above, highest, parent_of, read_path
+from ..program.protocol import LIST_ALL, LIST_NUMBERS, RESTORE
+from ..program.session import Session, parts_of
+from . import meta, sources, split_tree
+from .records import ChangedPaths, File, list_slices, list_words, write_record
 
 # What is said of a file.
 TEXTS = {
@@ -23,6 +27,11 @@ NO_CHANGE = (*NO_WRITING, beside.APPEND_ONLY)  # Nobody can change the owner, mo
 COUNTED = {beside.IMMUTABLE: "immutable file", beside.APPEND_ONLY: "append-only file",
            beside.READ_ONLY: "read-only file system", beside.NOEXEC: "noexec file system"}
 OTHERS = {beside.NFS4_LIST: b"NFSv4", beside.RICH_LIST: b"rich lists", beside.SAMBA_LIST: b"Samba"}  # Lists by kinds.
+
+WRITES = re.compile(rb"^((?:user|group|mask|other):[0-9]*:[r-])w", re.MULTILINE)  # In a record with ids as numbers.
+ROOM = 1 << 24  # Bytes of records that are given back at once.
+NOUNS = {beside.IMMUTABLE: ("immutable file", ""),
+         beside.READ_ONLY: ("file on a read-only file system", "files on read-only file systems")}
 
 
 class Marks:
@@ -130,3 +139,47 @@ def obstacles(marks: Marks, changes: ChangedPaths) -> Dict[bytes, bytes]:
              *((path, b"the folder above is ", marks.keeps_out(parent_of(path))) for path in changes.made),
              *((path, b"", marks.keeps_name(path)) for path in changes.removed)]
     return {path: begin + text for path, begin, text in found if text is not None}
+
+
+# --- files that nobody can write, whatever their lists say, in the answers of a session. The program knows nothing of marks. So
+# while it is asked who can write, it is given lists of these files in which no entry has w, and then their lists again.
+
+
+class Unwritable(NamedTuple):
+    """The files at or below some others that nobody can write: by path what their records have after the name."""
+
+    bodies: Dict[bytes, bytes]
+    numbers: Dict[bytes, int]  # Of each kind.
+
+    def text(self) -> bytes:
+        """How many of which kind."""
+        return b", ".join(counted(number, *NOUNS[kind]) for kind, number in self.numbers.items() if number)
+
+
+def find_unwritable(session: Session, marks: Marks, folders: List[bytes]) -> Unwritable:
+    """Those at or below some paths."""
+    found = Unwritable({}, dict.fromkeys(NO_WRITING, 0))
+    read_only = highest(marks.mounted(beside.READ_ONLY, folders))
+    for line, paths in ((LIST_NUMBERS, marks.immutable(folders)), (LIST_ALL, read_only)):
+        for words in sources.operands_of(paths):
+            for path, file in list_slices(list_words(session, words, line)).files.items():
+                kind = marks.keeps(path, NO_WRITING)
+                if kind is not None and path not in found.bodies:
+                    found.bodies[path] = file.body
+                    found.numbers[kind] += 1
+    return found
+
+
+def give(session: Session, found: Unwritable, body_of: Callable[[bytes], bytes] = bytes) -> None:
+    """Has the files be as their records say, or as these are changed."""
+    records = (write_record(path, File(False, body_of(body))) for path, body in found.bodies.items())
+    for part in parts_of(records, ROOM):
+        session.ask_accepted(RESTORE + b"\n" + b"".join(part) + b".")
+
+
+@contextlib.contextmanager
+def without_write(session: Session, found: Unwritable) -> Iterator[None]:
+    """While it goes on, no list of these files grants w to anybody."""
+    give(session, found, lambda body: WRITES.sub(rb"\1-", body))
+    yield
+    give(session, found)

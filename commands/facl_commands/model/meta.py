@@ -53,7 +53,6 @@ def text_of(folder: bytes) -> bytes:
 
 
 def meta_of(folder: bytes) -> Meta:
-    """That of a snapshot; UNKNOWN where it has none."""
     return read_meta(text_of(folder))
 
 

@@ -4,6 +4,7 @@ The warnings are those of facl-snapshot, as far as the files of the snapshot sho
 """
 from __future__ import annotations
 
+import itertools
 import os
 import re
 from collections import Counter
@@ -13,9 +14,7 @@ from ..base import beside
 from ..base.folders import folder_of
 from ..base.messages import Command, counted
 from ..base.names import live_name
-from ..program.protocol import (
-    EMPTY_MASK, FILE_HEAD, GROUP_ID_LINE, NAMED_LINE, OPEN_OTHERS_LINE, USER_ID_LINE,
-)
+from ..program.protocol import EMPTY_MASK, FILE_HEAD, GROUP_ID_LINE, NAMED_LINE, OPEN_OTHERS_LINE, USER_ID_LINE
 from . import marks, meta, split_tree
 from . import sources as source_texts
 from .people import ids_of, rows_of
@@ -67,33 +66,16 @@ def judged_otherwise(dump: bytes) -> Iterator[bytes]:
         place = dump.find(EMPTY_MASK, place + 1)
 
 
-def ids_without_row(texts: LoadedTexts) -> List[bytes]:
+def ids_without_row(texts: LoadedTexts) -> Iterator[bytes]:
     lines = source_texts.distinct_lines(texts.dump)
-    found: List[bytes] = []
     for kind, rows in ((b"user", texts.passwd), (b"group", texts.group)):
         ids = {match[1] for match in map(IDS[kind].match, lines) if match is not None}
-        found += [kind + b" " + it for it in sorted(ids.difference(uid for uid, _ in ids_of(rows)), key=int)]
-    return found
-
-
-def members_without_row(texts: LoadedTexts) -> List[bytes]:
-    members = {name for row in rows_of(texts.group) if len(row) > 3 for name in row[3].split(b",") if name}
-    return sorted(members - {row[0] for row in rows_of(texts.passwd)})
-
-
-def users_with_one_id(texts: LoadedTexts) -> List[bytes]:
-    """The users with the id of another one, as ID NAME."""
-    counts = Counter(uid for uid, _ in ids_of(texts.passwd))
-    return sorted(uid + b" " + name for uid, name in ids_of(texts.passwd) if counts[uid] > 1)
-
-
-def counted_warning(text: bytes, number: int, first: bytes) -> bytes:
-    return b"warning: %s: %d, first: %s" % (text, number, first)
+        yield from (kind + b" " + it for it in sorted(ids.difference(uid for uid, _ in ids_of(rows)), key=int))
 
 
 def warning_of(text: bytes, names: List[bytes]) -> bytes:
     """A warning with a number and the first name."""
-    return counted_warning(text, len(names), names[0])
+    return b"warning: %s: %d, first: %s" % (text, len(names), names[0])
 
 
 def by_acl5(names: List[bytes]) -> bytes:
@@ -103,12 +85,16 @@ def by_acl5(names: List[bytes]) -> bytes:
 
 def warnings(texts: LoadedTexts) -> Iterator[bytes]:
     """Each with a number and the first name."""
+    ids = ids_of(texts.passwd)
+    counts = Counter(uid for uid, _ in ids)
+    members = {name for row in rows_of(texts.group) if len(row) > 3 for name in row[3].split(b",") if name}
     found = {
         b"names of files that have another name in the snapshot too (see links)":
             [live_name(path) for names in read_links(texts.links) for path in names],
-        b"ids in the dump without a row in passwd or group": ids_without_row(texts),
-        b"members of groups without a row in passwd": members_without_row(texts),
-        b"users with an id that another user has too, as ID NAME": users_with_one_id(texts),
+        b"ids in the dump without a row in passwd or group": [*ids_without_row(texts)],
+        b"members of groups without a row in passwd": sorted(members - {row[0] for row in rows_of(texts.passwd)}),
+        b"users with an id that another user has too, as ID NAME":
+            sorted(uid + b" " + name for uid, name in ids if counts[uid] > 1),
     }
     return (warning_of(text, names) for text, names in found.items() if names)
 
@@ -116,9 +102,7 @@ def warnings(texts: LoadedTexts) -> Iterator[bytes]:
 def unknown(folder: bytes, dump: bytes) -> Iterator[bytes]:
     """What a snapshot that facl-snapshot did not make cannot tell, and the names in it that have no row."""
     found = source_texts.notice(folder, dump)
-    if found is not None:
-        yield found
-        yield from names_without_row(folder, dump)
+    return iter(()) if found is None else itertools.chain([found], names_without_row(folder, dump))
 
 
 def names_without_row(folder: bytes, dump: bytes) -> Iterator[bytes]:
@@ -134,8 +118,8 @@ def names_without_row(folder: bytes, dump: bytes) -> Iterator[bytes]:
     if number:
         all_lines = (line for piece in source_texts.pieces_of(dump) for line in piece.split(b"\n"))
         first = next((place for place, line in enumerate(all_lines, 1) if line in of_them), 0)
-        yield counted_warning(b"users and groups in the dump without a row, with which the program does not load it",
-                              number, b"line %d" % first)
+        yield (b"warning: users and groups in the dump without a row, with which the program does not load it: %d, first: line %d"
+               % (number, first))
 
 
 def torn(texts: LoadedTexts) -> Iterator[bytes]:

@@ -1,12 +1,18 @@
-"""Users and groups, as far as commands that change them have to be written for the live system."""
+"""Users and groups, as far as commands that change them have to be written for the live system; and answers about people without
+the superuser, to whom the kernel grants nearly everything whatever a list says."""
 from __future__ import annotations
 
-from typing import Dict, Iterable, List, NamedTuple, Optional, Set, Tuple, TypeVar
+from typing import Dict, Iterable, Iterator, List, NamedTuple, Optional, Set, Tuple, TypeVar
 
+from ..base.accounts import SUPERUSER
 from ..base.messages import Failure
 from ..base.names import number_of, read_name, script_word, write_user
 from ..base.user_tools import ADD_MEMBER, ADD_USER, CHANGE_GROUP, REMOVE_MEMBER, REMOVE_USER, PeopleChange, User
-from ..program.tools import split
+from ..program.scripts import Unit
+from ..program.tools import ABOUT_USERS, split, user_in
+
+NOTE = (b"left out of who, below, changes, gains and index: %s, to whom the kernel grants nearly everything; "
+        b"--with-root for all")
 
 
 class Group(NamedTuple):
@@ -16,6 +22,7 @@ class Group(NamedTuple):
 
 
 Row = TypeVar("Row", User, Group)
+
 
 def rows_of(text: bytes) -> List[List[bytes]]:
     """The fields of the rows of passwd(5) or group(5); the first row of a name counts."""
@@ -41,25 +48,28 @@ def users_in(passwd: bytes) -> List[User]:
     return [User(row[0], int(row[2]), int(row[3])) for row in rows_of(passwd)]
 
 
+def first_like(users: Iterable[User], name: bytes) -> Optional[User]:
+    """The first user with the id of the one of this name."""
+    known = list(users)
+    uid = next((user.uid for user in known if user.name == name), None)
+    return next((user for user in known if user.uid == uid), None)
+
+
 def user_word(users: Iterable[User], name: bytes) -> Optional[bytes]:
     """The word of a user in a line that a command asks: the name, or in the place of digits alone the id, which means the
     first user who has it; None where that is another one, or there is no such user."""
     if not name.isdigit():
         return script_word(write_user(name))
-    known = list(users)
-    uid = next((user.uid for user in known if user.name == name), None)
-    first = next((user for user in known if user.uid == uid), None)
+    first = first_like(users, name)
     return script_word(b"%d" % first.uid) if first is not None and first.name == name else None
 
 
 def needed_word(users: Iterable[User], name: bytes, said: bytes) -> bytes:
     """The same; fails where there is none, with what a message calls the user."""
     known = list(users)
-    word = user_word(known, name)
+    word, first = user_word(known, name), first_like(known, name)
     if word is None:
-        uid = next((user.uid for user in known if user.name == name), None)
-        owner = next((user.name for user in known if user.uid == uid and user.name != name), b"")
-        its = b", and the id of this user is also that of " + write_user(owner) if owner else b""
+        its = b", and the id of this user is also that of " + write_user(first.name) if first is not None else b""
         raise Failure(b"user \"%s\" cannot be asked for: digits alone mean an id" % said + its)
     return word
 
@@ -117,9 +127,8 @@ def groups_by_user(people: People) -> Dict[bytes, Set[int]]:
     """By name: the primary group and those that list the user."""
     found = {user.name: {user.gid} for user in people.users}
     for gid, names in listed_by_group(people).items():
-        for name in names:
-            if name in found:
-                found[name].add(gid)
+        for name in found.keys() & names:
+            found[name].add(gid)
     return found
 
 
@@ -134,7 +143,51 @@ def users_by_group(people: People) -> Dict[int, Set[bytes]]:
 
 def listed_by_group(people: People) -> Dict[int, List[bytes]]:
     """The names that the rows of each group list, each once."""
-    found: Dict[int, Dict[bytes, None]] = {}
+    found: Dict[int, List[bytes]] = {}
     for group in people.groups:
-        found.setdefault(group.gid, {}).update(dict.fromkeys(group.members))
-    return {gid: list(names) for gid, names in found.items()}
+        found.setdefault(group.gid, []).extend(group.members)
+    return {gid: [*dict.fromkeys(names)] for gid, names in found.items()}
+
+
+# --- the superuser
+
+
+def superusers_among(users: Iterable[Tuple[bytes, int]]) -> Set[bytes]:
+    """The names of those of some users, each with an id, who are the superuser."""
+    return {name for name, uid in users if uid == SUPERUSER}
+
+
+def ids_in(passwd: bytes) -> Dict[bytes, int]:
+    return {row[0]: int(row[2]) for row in rows_of(passwd) if len(row) > 2 and row[2].isdigit()}
+
+
+class Superusers:
+    """The users of uid 0, who are left out; none of them where nobody is to be."""
+
+    def __init__(self, ids: Dict[bytes, int]) -> None:
+        self.names = superusers_among(ids.items())
+        self.has_left_out = False
+
+    def follow(self, unit: Unit) -> None:
+        """A user whom an accepted line makes may be one too."""
+        if unit.is_of(ADD_USER):
+            line = split(unit.words)
+            if line.has(b"-u") and not line.value(b"-u").strip(b"0") and self.names:
+                self.names.update(map(read_name, line.operands[:1]))
+
+    def rest(self, unit: Unit, lines: Iterable[bytes]) -> Iterator[bytes]:
+        """The lines of an answer without those about them; a question of one user is answered as it is."""
+        form, is_about_people = unit.form(), self.is_about_people(unit)
+        for line in lines:
+            if self.names and is_about_people and read_name(user_in(form, line)) in self.names:
+                self.has_left_out = True
+            else:
+                yield line
+
+    def is_about_people(self, unit: Unit) -> bool:
+        """Whether its answer has names of users."""
+        return unit.form() in ABOUT_USERS
+
+    def note(self) -> bytes:
+        """What is said once, where somebody was left out."""
+        return NOTE % b", ".join(sorted(self.names))

@@ -5,7 +5,7 @@ import itertools
 from typing import Dict, Iterable, Iterator, List, NamedTuple, Tuple
 
 from ..base.messages import Failure
-from ..base.names import path_word, read_path, sorting_key, write_name
+from ..base.names import parent_of, path_word, read_path, sorting_key, write_name
 from ..program.protocol import DEFAULT_ENTRY, FILE_HEAD, LIST_ALL, ONLY_DIRECTORIES, SET_DEFAULT, has_text, lacks_file
 from ..program.session import OutputSlice, Session, cut
 
@@ -36,20 +36,12 @@ class ChangedPaths(NamedTuple):
 
 
 def write_record(path: bytes, file: File) -> bytes:
-    return write_records({path: file}, [path])
+    """The record of a file for the live system; the name of a directory ends in a slash."""
+    return b"".join((FILE_HEAD, b"/", write_name(path), b"/" * (file.is_directory and path != b""), b"\n", file.body, b"\n"))
 
 
 def write_records(files: Files, paths: Iterable[bytes]) -> bytes:
-    """The records of files for the live system; the name of a directory ends in a slash, and one without escapes is written
-    as it is."""
-    parts: List[bytes] = []
-    for path in paths:
-        is_directory, body = files[path]
-        if is_directory or b"\\" in path or b"\n" in path or b"\r" in path:
-            parts += (FILE_HEAD + b"/", write_name(path), b"/" * (is_directory and path != b""), b"\n", body, b"\n")
-        else:
-            parts += (FILE_HEAD + b"/", path, b"\n", body, b"\n")
-    return b"".join(parts)
+    return b"".join(write_record(path, files[path]) for path in paths)
 
 
 # --- a record: its first line has the name of the file, and the others are its body
@@ -67,16 +59,15 @@ def records_in(listing: Iterable[OutputSlice]) -> Iterator[bytes]:
 
 def split_record(record: bytes) -> Tuple[bytes, bytes]:
     """The name, and the body without the end of its last line."""
-    first, _, body = record.partition(b"\n")
-    return first[len(FILE_HEAD) :], body
+    return name_of(record), body_of(record)
 
 
 def name_of(record: bytes) -> bytes:
-    return split_record(record)[0]
+    return record.partition(b"\n")[0][len(FILE_HEAD) :]
 
 
 def body_of(record: bytes) -> bytes:
-    return split_record(record)[1]
+    return record.partition(b"\n")[2]
 
 
 def is_of_directory(name: bytes, body: bytes) -> bool:
@@ -85,8 +76,7 @@ def is_of_directory(name: bytes, body: bytes) -> bool:
 
 
 def path_of(name: bytes) -> bytes:
-    """The path that a name in a listing is; only one with an escape, or with a component that is none, has to be
-    read."""
+    """The path that a name in a listing is; only one with an escape, or with a component that is none, has to be read."""
     if b"\\" in name or b"//" in name or b"/." in name or name[:1] == b".":
         return read_path(name)
     return name.strip(b"/")
@@ -128,11 +118,9 @@ def list_pieces(pieces: Iterable[bytes]) -> Listing:
     plain = {body: File(DEFAULT_ENTRY in body, body + b"\n") for body in known}
     found = dict(zip(paths, map(plain.__getitem__, bodies)))
     folders = {body + b"\n": File(True, body + b"\n") for body in known}
-    slashed = [path for path, name in zip(paths, names) if name[-1:] == b"/"]
-    parents = {path.rpartition(b"/")[0] for path in paths}
-    for path in itertools.chain([b""], parents, slashed):
-        if path in found:
-            found[path] = folders[found[path].body]
+    slashed = (path for path, name in zip(paths, names) if name[-1:] == b"/")
+    for path in found.keys() & {b"", *map(parent_of, paths), *slashed}:
+        found[path] = folders[found[path].body]
     return Listing(found, names)
 
 
@@ -164,13 +152,9 @@ def list_all(session: Session, top: bytes = b"") -> Listing:
 
 def compare(old: Files, new: Files) -> ChangedPaths:
     """What differs. A file in the place of a directory, or a directory in the place of a file, is a new one."""
-    both = [path for path, file in old.items() if path in new and file.is_directory == new[path].is_directory]
-    same_kind = set(both)
-    return ChangedPaths(
-        sorted((path for path in both if old[path] != new[path]), key=sorting_key),
-        sorted((path for path in new if path not in same_kind), key=sorting_key),
-        sorted((path for path in old if path not in same_kind), key=sorting_key),
-    )
+    both = {path for path, file in old.items() if path in new and file.is_directory == new[path].is_directory}
+    sides = (path for path in both if old[path] != new[path]), new.keys() - both, old.keys() - both
+    return ChangedPaths(*(sorted(its, key=sorting_key) for its in sides))
 
 
 def asks_as_directory(session: Session, path: bytes) -> bool:

@@ -151,6 +151,5 @@ def read_snapshot(folder: bytes, needs_links: bool = True, needs_inodes: bool = 
     if found.has(b"inodes") and fault_of_inodes(folder, text, counts.names):
         raise Failure(folder + b"/inodes: has fewer names than facl snapshot recorded" + again)
     if found.has(b"inodes") and fault_of_links(links, counts):
-        raise Failure(folder + b"/links: has other names of files than inodes, so it is not what facl snapshot wrote"
-                      + again)
+        raise Failure(folder + b"/links: has other names of files than inodes, so it is not what facl snapshot wrote" + again)
     return Snapshot(folder, passwd, group, links, boot, inodes)

@@ -1,8 +1,7 @@
-"""Any dump: a folder with passwd, group and dump alone, or three files by name, also without the directories above its
-files.
+"""Any dump: a folder with passwd, group and dump alone, or three files by name, also without the directories above its files.
 
-A command calls add_source for its words and opens what is given by opened; then notice has what such a snapshot cannot
-tell, find_tops the files that no recorded directory is above, and list_below listings from these on.
+A command calls add_source for its words and opens what is given by opened; then notice has what such a snapshot cannot tell,
+find_tops the files that no recorded directory is above, and list_below listings from these on.
 """
 from __future__ import annotations
 
@@ -14,12 +13,10 @@ import subprocess
 from typing import Iterator, List, NamedTuple, Optional, Set
 
 from ..base import beside, folders
-from ..base.attempts import failing
-from ..base.environment import environment_of_called
 from ..base.folders import Folder, folder_of
-from ..base.messages import Failure
+from ..base.messages import Failure, failing
 from ..base.names import highest, path_word, read_name
-from ..base.programs import add_program, program_words
+from ..base.programs import add_program, environment_of_called, program_words
 from ..base.trusted import MOST, open_file, too_large
 from ..program.protocol import FILE_HEAD, FREE_FILE_LINE, LIST
 from ..program.session import OutputSlice, Session, parts_of

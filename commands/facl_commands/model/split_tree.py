@@ -58,10 +58,7 @@ class Once:
         self.last: Optional[bytes] = None
 
     def is_new(self, path: bytes) -> bool:
-        key = sorting_key(path)
-        is_new = self.last is None or key > self.last
-        self.last = key if is_new else self.last
-        return is_new
+        return self.of_part([path]) != []
 
     def of_part(self, paths: Iterable[bytes]) -> List[bytes]:
         """Those of the paths of the next part, which are in path order."""

@@ -52,15 +52,12 @@ def mentioning(people: People, users: List[bytes], bodies: List[bytes]) -> List[
     return [sorted({number for key in keys[read_name(user)] for number in found.get(key, ())}) for user in users]
 
 
-def ask_entries(session: Session, lines: Iterable[bytes], entries: Numbered[bytes]) -> Iterator[int]:
-    """The numbers of what lines print by which entries a user is judged."""
-    for some in parts_of(lines, LINES_ROOM):
-        yield from map(entries.number, ask_records(session, some))
-
-
 def ask_reasons(session: Session, texts: PeopleTexts, everybody: bytes, users: List[bytes], bodies: List[bytes],
                 entries: Numbered[bytes]) -> List[ListReasons]:
     """By which entries each user is judged, by list; one whom no word names has no entries here."""
+    def ask(some_lines: Iterable[bytes]) -> Iterator[int]:
+        return (entries.number(it) for some in parts_of(some_lines, LINES_ROOM) for it in ask_records(session, some))
+
     people, known = People(texts.passwd, texts.group), users_in(texts.passwd)
     for unit in read_script(b"", texts.lines):
         people.change(unit.words)
@@ -69,9 +66,9 @@ def ask_reasons(session: Session, texts: PeopleTexts, everybody: bytes, users: L
     lines = (b" ".join([ENTRIES_OF, word, *part]) for _, word, lists in asked for part in parts_of(WORD % it for it in lists))
     alike = [ENTRIES_OF + b" " + script_word(everybody) + b" " + part for part in operands_of(len(bodies))]
     without = dict.fromkeys([place for place, word in enumerate(words) if word is None], entries.number(b""))
-    found = [ListReasons(number, dict(without)) for number in ask_entries(session, alike, entries)]
+    found = [ListReasons(number, dict(without)) for number in ask(alike)]
     places = ((place, number) for place, _, lists in asked for number in lists)
-    for (place, number), entry in zip(places, ask_entries(session, lines, entries)):
+    for (place, number), entry in zip(places, ask(lines)):
         found[number].others[place] = entry
     return found
 

@@ -6,7 +6,7 @@ import os
 import re
 from typing import Dict, Iterable, List, Set
 
-from ..base.accounts import is_of_system
+from ..base.accounts import SUPERUSER, is_person
 from ..base.beside import of_mount
 from ..base.names import read_name
 from ..base.programs import judge_text
@@ -16,9 +16,8 @@ from ..model.everybody import everybody_in, free_ids
 from ..model.file_columns import FileColumns
 from ..model.label_answers import PeopleTexts
 from ..model.marks import TEXTS, Marks, alone, not_judged
-from ..model.people import plain_id, rows_of
+from ..model.people import Superusers, ids_in, plain_id, rows_of
 from ..model.snapshot import Snapshot
-from ..model.superuser import Superusers, ids_in
 from ..program.protocol import ADD_USER_WITH
 from ..program.scripts import Unit
 from ..program.tools import CHANGES_OF_PEOPLE
@@ -43,11 +42,10 @@ class Probes:
         self.whos.append(Who("everybody", b"everybody", everybody.name))
 
 
-def users_shown(old: List[bytes], new: List[bytes], probes: List[Who], left_out: Set[bytes],
-                ids: Dict[bytes, int]) -> List[Who]:
+def users_shown(old: List[bytes], new: List[bytes], probes: List[Who], left_out: Set[bytes], ids: Dict[bytes, int]) -> List[Who]:
     """Users first, then groups, then everybody; one whom the snapshot has by an id of no person is an account."""
     others = {who.user for who in probes} | left_out
-    accounts = {name for name, uid in ids.items() if is_of_system(uid)}
+    accounts = {name for name, uid in ids.items() if uid != SUPERUSER and not is_person(uid)}
     return [Who("account" if read_name(user) in accounts else "user", user, user)
             for user in dict.fromkeys([*old, *new]) if user not in others] + probes
 
@@ -58,8 +56,7 @@ def texts_of(kinds: Iterable[bytes]) -> List[str]:
 
 
 def marks_on(paths: List[bytes], marks: Marks) -> Dict[str, object]:
-    """What is said of files beside their lists, by places: of some alone, and of some with all below, up to others of
-    these."""
+    """What is said of files beside their lists, by places: of some alone, and of some with all below, up to others of these."""
     own, mounts = marks.own, marks.mounts
     known = {*own, *mounts}
     marked = [(place, path) for place, path in enumerate(paths) if path in known] if known else []

@@ -45,9 +45,7 @@ class Reviewed(NamedTuple):
     above: FileColumns  # Those that are recorded, from the highest one down.
     files: FileColumns
     labels: Labels  # Of both.
-
-    def parts(self) -> List[FolderFiles]:
-        return [*by_folder(self.files.paths)]
+    parts: List[FolderFiles]
 
 
 def read_reviewed(session: Session, word: bytes) -> Reviewed:
@@ -55,7 +53,8 @@ def read_reviewed(session: Session, word: bytes) -> Reviewed:
     above = [it for it in directories_above(path)[::-1] if choice.is_recorded(session, it)]
     lines = [LIST_CUT + b" " + path_word(it) for it in above]
     recorded = columns_of(map(session.ask_accepted, lines), labels)
-    return Reviewed(recorded, columns_of([session.ask_accepted(LIST_EFFECTIVE + b" " + path_word(path))], labels), labels)
+    files = columns_of([session.ask_accepted(LIST_EFFECTIVE + b" " + path_word(path))], labels)
+    return Reviewed(recorded, files, labels, [*by_folder(files.paths)])
 
 
 class PeopleAnswers(NamedTuple):
@@ -90,17 +89,12 @@ def rights_of(reviewed: Reviewed, folders: Set[int], granted: List[Vector], is_a
     reaches: Dict[int, bytes] = {}  # and to what is one perhaps, as the next file is in it.
     labels, place = reviewed.files.labels, 0
     classes: Counts[Tuple[int, bool, bytes]] = Counter()
-    for _, _, parent, _, names in reviewed.parts():
+    for _, _, parent, _, names in reviewed.parts:
         if parent not in insides:
             insides[parent] = everybody if is_alone else inside(reaches[parent], granted[labels[parent]])
         reach, end = insides[parent], place + len(names)
         classes.update((labels[it], it in folders, reach) for it in range(place, end))
         place, reaches[end - 1] = end, reach
-    return counted_by(classes, granted)
-
-
-def counted_by(classes: Counts[Tuple[int, bool, bytes]], granted: List[Vector]) -> RightsByList:
-    """The rights of each person, from files of one list to which the same people get."""
     found = RightsByList(Counter(), Counter(), Counter(), {})
     for (label, is_directory, reach), files in classes.items():
         vector = along_path(granted[label], reach)
@@ -115,8 +109,7 @@ def counted_by(classes: Counts[Tuple[int, bool, bytes]], granted: List[Vector]) 
 
 
 def who_of(entry: Entry, names: Sequence[bytes], ids: NamesOfIds, is_default: bool) -> str:
-    """Of whom an entry is, in words; names has the owner and the group. A new file has an owner and a group of its
-    own."""
+    """Of whom an entry is, in words; names has the owner and the group. A new file has an owner and a group of its own."""
     if entry.is_named():
         return shown(ids.shown(entry.key))
     mine, its = (b"its owner", b"its group") if is_default else (b"owner " + names[0], b"owning group " + names[1])
@@ -140,8 +133,7 @@ class Lists:
                    for entry, line in zip(record.access, lines)]
         entries += [self.entry(entry, who_of(entry, names, self.ids, True), b"d:", []) for entry in record.default]
         flags = "" if record.flags == NOTHING else record.flags.decode()
-        return {"folder": is_directory, "owner": shown(names[0]), "group": shown(names[1]), "flags": flags,
-                "entries": entries}
+        return {"folder": is_directory, "owner": shown(names[0]), "group": shown(names[1]), "flags": flags, "entries": entries}
 
     def entry(self, entry: Entry, who: str, begin: bytes, people: List[int]) -> Dict[str, object]:
         """An entry, with what setfacl takes it away by; nothing where it cannot go."""
@@ -188,11 +180,9 @@ def ask_people(program: str, source: Source, given: argparse.Namespace, passwd: 
                          [list(map(its.of, places)) for its in answers.reasons], entries, answers.lists)
 
 
-def data_of(program: str, reviewed: Reviewed, source: Source, given: argparse.Namespace,
-            is_whole: bool) -> Dict[str, object]:
+def data_of(program: str, reviewed: Reviewed, source: Source, given: argparse.Namespace, is_whole: bool) -> Dict[str, object]:
     passwd, group = map(folder_of(source.folder).read, NEEDED[:2])
-    bodies, (_, files, _) = reviewed.labels.bodies(), reviewed
-    parts = reviewed.parts()
+    bodies, (_, files, _, parts) = reviewed.labels.bodies(), reviewed
     parents = [its.parent for its in parts for _ in its.names]
     folders = {*files.folders, *parents} - {ABOVE}
     answers = ask_people(program, source, given, passwd, group, bodies)
@@ -220,8 +210,7 @@ def add_options(parser: argparse.ArgumentParser) -> None:
                         "of which it makes the lines that take the ticked ones away; needs --folder")
     parser.add_argument("--folder", metavar="FOLDER",
                         help="with --for-review: as on the live system, or from the root of the snapshot")
-    parser.add_argument("--all-users", action="store_true",
-                        help=f"with --for-review: all users, and not people alone ({PEOPLE})")
+    parser.add_argument("--all-users", action="store_true", help=f"with --for-review: all users, and not people alone ({PEOPLE})")
 
 
 def check_options(parser: argparse.ArgumentParser, given: argparse.Namespace) -> None:

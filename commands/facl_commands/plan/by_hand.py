@@ -7,9 +7,9 @@ import os
 from typing import Dict, Iterator, List, Set
 
 from ..base.acl_bytes import Record
-from ..base.environment import HOME
 from ..base.messages import counted
 from ..base.names import parent_of, path_order, shell_word, shown
+from ..base.programs import HOME
 from ..base.user_tools import CHANGE_GROUP, REMOVE_USER, PeopleChange
 from ..model.records import ChangedPaths, Files
 from ..model.snapshot import Snapshot

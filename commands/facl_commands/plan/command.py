@@ -13,11 +13,11 @@ from ..base.programs import find_program
 from ..model import label_answers, meta, overview, people, rights, sources
 from ..model.entries import read_record
 from ..model.everybody import SHOWN, SnapshotTexts, answers_over, session_with
-from ..model.gains import ask_gains
 from ..model.marks import alone, marks_of, not_judged, obstacles
+from ..model.people import superusers_among
 from ..model.records import ChangedPaths, Listing, compare, list_slices
+from ..model.rights import ask_gains
 from ..model.snapshot import Snapshot, read_snapshot
-from ..model.superuser import superusers_among
 from ..planned import plan_folder
 from ..planned.by_hand import NO_STEPS, SCRIPTS, STEPS, Steps, text_of
 from ..program.scripts import Script, Unit, read_text

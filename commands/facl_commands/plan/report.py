@@ -15,8 +15,8 @@ from ..base.programs import judge_word
 from ..base.user_tools import PeopleChange
 from ..model import choice, meta, rights
 from ..model.everybody import SHOWN, beside
-from ..model.gains import Gain
 from ..model.records import ChangedPaths, Files
+from ..model.rights import Gain
 from ..model.sources import Source
 from ..program.answering import below_heading
 from . import chown, no_gain

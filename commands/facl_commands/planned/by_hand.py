@@ -11,7 +11,7 @@ import os
 import re
 from typing import Any, Dict, List, NamedTuple, Optional, Set, Union
 
-from ..base import new_file, own_files, trusted
+from ..base import new_file, trusted
 from ..base.acl_bytes import NO_ID, Record
 from ..base.linux import Identity
 from ..base.messages import Command, Failure, reason
@@ -201,9 +201,9 @@ class Doing(Notes):
         self.command = command
         if not folder.has(DONE_BY_HAND):
             os.close(new_file.create(DONE_BY_HAND, folder.descriptor))
-        mark = own_files.open_mark(folder.descriptor, folder.name, DONE_BY_HAND)
+        mark = trusted.open_mark(folder.descriptor, folder.name, DONE_BY_HAND)
         if trusted.has_list(mark):
-            raise own_files.mark_failure(folder.name, DONE_BY_HAND, b"has an ACL")
+            raise trusted.mark_failure(folder.name, DONE_BY_HAND, b"has an ACL")
         text = folder.read(DONE_BY_HAND)
         super().__init__(text)
         self.file = os.open(b"/proc/self/fd/%d" % mark, os.O_WRONLY | os.O_APPEND | os.O_CLOEXEC)

@@ -13,7 +13,7 @@ import secrets
 import stat
 from typing import Dict, NamedTuple, Optional, Tuple
 
-from ..base import linux, new_file, own_files, trusted
+from ..base import linux, new_file, trusted
 from ..base.messages import Failure, reason, signals_wait
 from ..base.new_file import DIRECTORY, is_there, make_directory
 
@@ -56,8 +56,7 @@ class PlanFolder(NamedTuple):
         return is_there(name, self.descriptor)
 
     def read(self, name: bytes) -> bytes:
-        read = own_files.read_mark if name in MARKS else trusted.read_in
-        return read(self.descriptor, self.name, name)
+        return trusted.read_in(self.descriptor, self.name, name, is_mark=name in MARKS)
 
     def is_used(self) -> bool:
         """Whether facl-apply has used it, or by_hand has noted something: without that its notes are empty."""
@@ -95,7 +94,7 @@ class PlanFolder(NamedTuple):
     def lock(self) -> None:
         """Locks it until the command ends."""
         has_lock = self.has(LOCK)
-        descriptor = own_files.open_mark(self.descriptor, self.name, LOCK) if has_lock else self.descriptor
+        descriptor = trusted.open_mark(self.descriptor, self.name, LOCK) if has_lock else self.descriptor
         try:
             fcntl.flock(descriptor, fcntl.LOCK_EX | fcntl.LOCK_NB)
         except BlockingIOError as error:

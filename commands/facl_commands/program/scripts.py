@@ -6,8 +6,7 @@ import re
 import stat
 from typing import IO, Iterable, Iterator, List, NamedTuple, Optional, Tuple
 
-from ..base.attempts import failing
-from ..base.messages import Failure
+from ..base.messages import Failure, failing
 from ..base.trusted import MOST_WRITTEN, read_all, too_large
 from .tools import LOADERS, TEXT_WORDS, form_of
 

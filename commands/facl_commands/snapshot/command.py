@@ -11,8 +11,7 @@ from typing import List, Optional
 
 from .. import VERSION
 from ..base import linux, live
-from ..base.attempts import failing, held
-from ..base.messages import NOT_SAID, Command, Failure
+from ..base.messages import NOT_SAID, Command, Failure, failing, held
 from ..base.names import number_of
 from .taking import Program, Taking
 from .target import NewSnapshot, place_of

@@ -11,8 +11,7 @@ from functools import partial
 from typing import Callable, Dict, FrozenSet, NamedTuple, Optional, Tuple, TypeVar
 
 from ..base import acl_bytes, linux
-from ..base.acl_bytes import ENTRY, GROUP, GROUP_CLASS, GROUP_OBJ, HEAD, MASK, NAMED, NO_ID, OTHER, USER, USER_OBJ
-from ..base.live import MINIMAL
+from ..base.acl_bytes import ENTRY, GROUP, GROUP_CLASS, GROUP_OBJ, HEAD, MASK, NAMED, NO_ID, OTHER, USER, USER_OBJ, minimal
 from ..base.messages import Failure
 
 MOST_ENTRIES = 4096  # Of a list, which the program takes.
@@ -106,7 +105,7 @@ def label_text(label: Label) -> LabelText:
     its, access, default = label
     owner, group, mode = linux.LABEL.unpack(its)
     flags = b"# flags: " + b"".join(letter if mode & bit else b"-" for bit, letter in FLAGS) + b"\n" if mode & 0o7000 else b""
-    first = ACCESS_TEXTS[MINIMAL[mode & 0o777] if access is None else access]
+    first = ACCESS_TEXTS[minimal(mode & 0o777) if access is None else access]
     second = DEFAULT_TEXTS[default] if default else NO_LIST
     text = b"".join((b"\n# owner: %d\n# group: %d\n" % (owner, group), flags, first.lines, second.lines, b"\n"))
     return LabelText(text, (owner, group, first.users | second.users, first.groups | second.groups),

@@ -5,8 +5,7 @@ from typing import AbstractSet, Callable, Dict, Iterable, List, Set, Tuple
 
 from ..base import trusted
 from ..base.accounts import is_person
-from ..base.attempts import failing
-from ..base.messages import Failure
+from ..base.messages import Failure, failing
 from . import asking
 from .asking import Account, Key, Service
 from .runs import Sums, Warned

@@ -5,8 +5,7 @@ import os
 from typing import IO, Dict, Iterable, Iterator, List, Optional, Tuple
 
 from ..base import beside, linux
-from ..base.attempts import failing
-from ..base.messages import Failure
+from ..base.messages import Failure, failing
 from ..base.new_file import create, make_directory
 from ..base.progress import AT
 from . import scope as scopes

@@ -9,10 +9,9 @@ import time
 from typing import List, Optional, Tuple
 
 from .. import VERSION
-from ..base.attempts import failing, held
-from ..base.environment import environment_of_called
-from ..base.messages import Command, Failure, counted
+from ..base.messages import Command, Failure, counted, failing, held
 from ..base.new_file import DIRECTORY
+from ..base.programs import environment_of_called
 from . import asking
 from .in_order import found_by
 from .list_texts import shown_name

@@ -15,9 +15,8 @@ from contextlib import closing, suppress
 from typing import Callable, Dict, NamedTuple, Optional
 
 from ..base import acl_bytes, live, new_file, trusted
-from ..base.attempts import failing, held
 from ..base.folders import FILES, remove_snapshot
-from ..base.messages import SIGNALS, Failure, signals_wait
+from ..base.messages import SIGNALS, Failure, failing, held, signals_wait
 from ..base.new_file import DIRECTORY
 
 LETTERS = string.ascii_letters + string.digits

@@ -7,8 +7,8 @@ import os
 from typing import Callable, List, NamedTuple
 
 from .. import VERSION
-from ..base.environment import HOME, PART
 from ..base.messages import Command, Failure
+from ..base.programs import HOME, PART
 from ..base.progress import AT
 from .options import BY_FIELD, BY_NAME, PATH
 from .running import Runs

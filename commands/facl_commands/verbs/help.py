@@ -9,8 +9,8 @@ import textwrap
 from typing import Iterator, List, Optional
 
 from ..base import tables
-from ..base.environment import HOME, environment_of_called
 from ..base.messages import Command
+from ..base.programs import HOME, environment_of_called
 from .table import ASKING, BY_VERB, CHANGING, RECORDING, SHOWING, VERBS, Verb, no_verb, parser_of
 
 GROUPS = (RECORDING, ASKING, CHANGING, SHOWING)

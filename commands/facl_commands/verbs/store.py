@@ -13,8 +13,7 @@ import time
 from typing import Iterator, List, NamedTuple, Optional
 
 from ..base import folders, new_file, trusted
-from ..base.attempts import held
-from ..base.messages import Failure, counted, reason
+from ..base.messages import Failure, counted, held, reason
 from ..base.names import is_at_or_below, live_name, read_path
 from ..model import choice, meta, split_tree
 

@@ -7,9 +7,9 @@ import shutil
 import subprocess
 
 from ..base import new_file, trusted
-from ..base.environment import environment_of_called
 from ..base.messages import Command, Failure
 from ..base.names import PLAIN_SHELL_WORD
+from ..base.programs import environment_of_called
 from .options import BY_FIELD
 from .store import STORE
 from .table import BY_VERB, of_option

@@ -12,9 +12,8 @@ import time
 from typing import IO, Dict, List, NamedTuple, Sequence, Union
 
 from ...base import scratch
-from ...base.environment import HOME, PART, environment_of_called
 from ...base.messages import Failure
-from ...base.programs import program_words
+from ...base.programs import HOME, PART, environment_of_called, program_words
 from ...model.everybody import Everybody
 from ...program.protocol import is_refused
 from ...program.scripts import read_script

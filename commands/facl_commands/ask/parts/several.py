@@ -21,7 +21,7 @@ from ...base.messages import UNUSABLE, Command, Failure, counted
 from ...base.names import live_name, path_order, path_word, read_path, shown
 from ...model import overview
 from ...model.everybody import ElseAnswers, Everybody, beside_of, everybody_in
-from ...model.superuser import Superusers
+from ...model.people import Superusers
 from ...program.answering import heading, lines_to_show, write_messages
 from ...program.protocol import ANSWERED, REFUSED, is_refused
 from ...program.scripts import Unit, read_text

@@ -6,9 +6,9 @@ from typing import Dict, Iterable, Iterator, List, NamedTuple, Optional, Tuple
 
 from ...base.messages import Failure
 from ...base.names import parent_of, path_word, way_to, write_user
-from ...model.alike import AlikeFiles, AlikeKey
 from ...model.choice import is_chosen
 from ...model.entries import GROUP, OTHER, USER, Key, digits, flag_digit, named, read_record, without
+from ...model.file_columns import AlikeFiles, AlikeKey
 from ...model.label_answers import PeopleTexts, ask_vectors
 from ...model.people import People, groups_by_user, users_by_group
 from ...model.records import File
@@ -53,7 +53,7 @@ class EverybodyRights:
 
     def __init__(self, audited: Audited) -> None:
         self.above, everybody = audited.tree.above, audited.world.everybody
-        people = PeopleTexts(everybody.passwd(), everybody.with_group(audited.world.texts.group), b"")
+        people = PeopleTexts(everybody.with_user(b""), everybody.with_group(audited.world.texts.group), b"")
         bodies = list(dict.fromkeys(file.body for file in audited.tree.files))
         self.vectors = ask_vectors(audited.program, people, bodies)[0].of_body
         self.closed: Dict[bytes, Optional[bytes]] = {}

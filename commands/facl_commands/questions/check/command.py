@@ -12,9 +12,8 @@ from ...base.tables import add_output, paged, write_json, write_table
 from ...model import choice, overview, sources, split_tree
 from ...model.everybody import World, paths_of, world_of
 from ...model.meta import meta_of, named
-from ...model.people import rows_of
+from ...model.people import ids_in, rows_of
 from ...model.sources import Source
-from ...model.superuser import ids_in
 from .answers import Rights, RuleOutcome, outcome, rules_that_hold
 from .report import SCHEMA, CheckReport, json_of, lines_of, table_of
 from .rules import INPUT, Faults, RuleReader

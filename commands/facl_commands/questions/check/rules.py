@@ -14,8 +14,7 @@ from ...base.names import file_name, plain_word, read_name, read_path, write_nam
 from ...base.trusted import read_given
 from ...model.choice import is_recorded
 from ...model.everybody import World
-from ...model.people import Group, People, is_named, users_by_group
-from ...model.superuser import ids_in, superusers_among
+from ...model.people import Group, People, ids_in, is_named, superusers_among, users_by_group
 from ...program.scripts import WORD, lines_with_numbers, read_text, words_of
 
 NEVER, ONLY, ALWAYS = b"never", b"only", b"always"

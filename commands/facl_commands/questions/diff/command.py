@@ -12,10 +12,10 @@ from ...base.new_file import NewFile
 from ...base.programs import add_program, find_program
 from ...model import choice, overview, sources
 from ...model.everybody import Everybody
-from ...model.gains import Gain, ask_gains
 from ...model.marks import alone, marks_of
 from ...model.people import rows_of as rows_of_text
 from ...model.records import blocks_in, name_of, path_of, records_in
+from ...model.rights import Gain, ask_gains
 from ...program.session import OutputSlice, Session
 from . import report
 from .edits import CannotLead, Edits, group_text

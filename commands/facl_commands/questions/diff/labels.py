@@ -13,10 +13,9 @@ from typing import Dict, Iterable, Iterator, List, NamedTuple, Sequence, Set, Tu
 from ...base.messages import Failure
 from ...base.names import is_at_or_below, is_below, shown_path, write_user
 from ...base.numbered import Numbered
-from ...model.gains import Gain
 from ...model.label_answers import dump_of, vectors_of
 from ...model.people import rows_of
-from ...model.rights import ABSENT, GRANTED, is_change, places_in, users_of
+from ...model.rights import ABSENT, GRANTED, Gain, is_change, places_in, users_of
 from ...model.rules_of_lists import along_path, inside, lanes
 from ...program.protocol import FILE_HEAD, INDEX
 from ...program.session import session_over

@@ -11,9 +11,9 @@ from typing import Callable, Dict, FrozenSet, Iterable, List, NamedTuple, Tuple
 
 from ...base.names import directories_above, file_name, path_word, read_name, write_user
 from ...model.entries import OTHER_KEY, OWNER_KEY, OWNING_GROUP_KEY, USER, Entry, Key, ReadRecord, entries_of, named, read_record
-from ...model.gains import Gain
 from ...model.people import People, listed_by_group, user_word
 from ...model.records import body_of, name_of, path_of, records_in
+from ...model.rights import Gain
 from ...model.rules_of_lists import grants_search
 from ...program.protocol import ENTRIES_ALONG_PATH, ENTRIES_OF, LIST_NUMBERS
 from ...program.session import Session, parts_of, session_over

@@ -5,8 +5,7 @@ from typing import Callable, Dict, Iterable, Iterator, List, NamedTuple, Set, Tu
 
 from ...base.names import write_user
 from ...model.everybody import Everybody
-from ...model.gains import Gain, order_of
-from ...model.rights import ABSENT, REQUESTS
+from ...model.rights import ABSENT, REQUESTS, Gain, order_of
 from .states import State
 
 FEWEST = 2  # Users of the snapshots who are called everybody, with everybody else.

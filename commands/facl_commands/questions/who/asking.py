@@ -15,9 +15,8 @@ from ...model import meta
 from ...model.entries import OTHER_KEY, OWNER_KEY, OWNING_GROUP_KEY, Entry, entries_of, read_record
 from ...model.everybody import SHOWN, World, beside
 from ...model.label_answers import ask_records
-from ...model.marks import NO_MARKS, marks_of
+from ...model.marks import NO_MARKS, Unwritable, find_unwritable, marks_of, without_write
 from ...model.people import is_named, needed_word, user_word
-from ...model.unwritable import Unwritable, find_unwritable, without_write
 from ...program.protocol import EFFECTIVE, ENTRIES_OF, LIST_NAMES
 from ...program.tools import REACH
 
@@ -71,7 +70,7 @@ class Asker:
         self.world, self.session, self.given = world, world.session, given
         self.users = world.users
         # The rows of all whom an answer can have, in its order: everybody else comes first.
-        self.passwd = world.everybody.passwd() + world.texts.passwd
+        self.passwd = world.everybody.with_user(b"") + world.texts.passwd
         self.marks = marks_of(self.session.folder)
         self.judged_by = NO_MARKS if given.lists_alone else self.marks
         self.unwritable: Optional[Unwritable] = None  # Files that were left out last.

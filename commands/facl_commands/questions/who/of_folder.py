@@ -10,9 +10,9 @@ from ...base.names import json_text, parent_of, path_word, read_name
 from ...base.tables import Column, Table
 from ...model import choice
 from ...model.entries import NOTHING, head_lines, read_record
+from ...model.people import ids_in
 from ...model.records import asks_as_directory
 from ...model.rules_of_lists import is_sticky, remover, writing
-from ...model.superuser import ids_in
 from ...program.protocol import CAN, LIST_BELOW, LIST_NAMED, LIST_NUMBERS, MAKE_DIRECTORY, MAKE_FILE, WHO
 from .asking import Asker, NamedUser, Reasons, WhoAnswer, plain_entry, read_right
 
