@@ -188,6 +188,29 @@ class Forms(Checks):
                     b"whom the kernel grants nearly everything: leave it out, or give --with-root to judge it as any other user\n")
 
 
+class Page(Checks):
+    """The forms that facl-rules(5) has, in a tree where finance writes in /srv/fin, and /srv/teams can be listed by all."""
+
+    TREE = {b"/srv/teams/": b"# owner: 0\n# group: 0\nuser::rwx\ngroup::r-x\nother::r-x\n",
+            b"/srv/teams/plan": b"# owner: 0\n# group: 0\nuser::rw-\ngroup::r--\nother::---\n",
+            b"/srv/fin/": b"# owner: 0\n# group: 2003\nuser::rwx\ngroup::rwx\nother::---\n",
+            b"/srv/fin/book": b"# owner: 0\n# group: 2003\nuser::rw-\ngroup::rw-\nother::---\n"}
+    OF_HR = [b"anna 2 /srv/hr", b"bert 2 /srv/hr"]
+    FORMS = {"never guest read below /srv/teams": [], "never guest read /srv/teams": [b"guest 1 /srv/teams"],
+             "only group finance write below /srv/fin": [], "only ines mara write /srv/fin": [],
+             "always group finance read /srv/fin": [], "never everybody else write /srv": [],
+             "never people read /srv/hr": OF_HR, "never everybody read /srv/hr": OF_HR}
+
+    def test_its_forms(self) -> None:
+        users = b"".join(b"%s:x:%d:%d::/:/bin/sh\n" % (name, uid, uid) for uid, name in ((1010, b"guest"), (1011, b"ines"), (1012, b"mara")))
+        self.take(self.TREE, passwd=PASSWD + users, group=GROUP + b"finance:x:2003:ines,mara\n")
+        with open(os.path.join(COMMANDS, "..", "docs", "pages", "facl-rules.5.md"), encoding="utf-8") as file:
+            forms = re.findall(r"^\| `((?:never|only|always) [^`]*)` \|", file.read(), re.MULTILINE)
+        self.assertEqual(forms, [*self.FORMS])
+        for form, wanted in self.FORMS.items():
+            self.assertEqual((form, self.broken(form.encode())), (form, wanted))
+
+
 class Report(Checks):
     RULES = b"never xaver read srv/hr/cases/   # a contractor, that's why\nalways @hr write srv/hr/cases/\n\nnever others write /\n"
 

@@ -11,7 +11,7 @@ import sys
 import tempfile
 import time
 import unittest
-from typing import List, Optional
+from typing import Callable, List, Optional
 
 from common import COMMANDS, Case, Done, restore_signals
 from snapshot_stand_ins import all_commands_with
@@ -183,7 +183,8 @@ class Week(Daily):
                       "it along its path\n        first: TOP/tree/more\n", self.findings(self.daily()))
         os.unlink(os.path.join(self.tree, "more"))
         self.assertIn(stands, self.findings(self.daily()))
-        for damage in (lambda name: os.chmod(name, 0o644), os.unlink, lambda name: os.truncate(name, 0)):
+        damages: List[Callable[[str], None]] = [lambda name: os.chmod(name, 0o644), os.unlink, lambda name: os.truncate(name, 0)]
+        for damage in damages:
             damage(self.path("kept/" + FOUND))
             self.assertEqual(re.sub(r"DAY[.\d]*", "DAY", self.findings(self.daily())), re.sub(r"DAY[.\d]*", "DAY", full))
 

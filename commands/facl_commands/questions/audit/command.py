@@ -28,9 +28,9 @@ A_LINK = b"a hard link, by which folders share a file"
 WHICH_NAME = b"which names shall stay; all are one file with one owner, group and ACL"
 HELP = """\
 Looks for what is wrong with the access lists of a snapshot, or of FOLDERs in it: findings by weight, each with the
-number of files, the first of them, and a line for facl-plan that mends it. Rights are those along paths, as the program
-answers: `everybody else` is a user whom no list names and who is in no group of the tree, as one whom the snapshot does
-not have.
+number of files, the first of them, what may be meant, and a line for facl-plan that mends it, or what is to be decided
+where none is safe. Those of weight low are shown with --weight low. Rights are those along paths, as the program answers:
+`everybody else` is a user whom no list names and who is in no group of the tree, as one whom the snapshot does not have.
 
 It changes nothing. A finding that is as it should be is accepted by a line of the FILE of --accepted,
 

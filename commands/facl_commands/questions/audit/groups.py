@@ -7,7 +7,7 @@ from ...base.names import parent_of, path_order, script_word
 from .findings import FoundFiles, Mend
 
 
-class FileGroup(NamedTuple):
+class PatternGroup(NamedTuple):
     """Files of which one pattern of entries is found."""
 
     folder: bytes  # The directory whose default ACL gives the entries, or the nearest one at or below which all files are.
@@ -27,13 +27,13 @@ def common_folder(paths: List[bytes]) -> bytes:
     return b"/".join(first[:number]) if len(paths) > 1 else parent_of(paths[0])
 
 
-def groups_of(found: FoundFiles) -> List[FileGroup]:
+def groups_of(found: FoundFiles) -> List[PatternGroup]:
     """The files that have a pattern, the largest group first."""
     groups: Dict[Tuple[bytes, Optional[bytes]], FoundFiles] = {}
     for path, mend in zip(found.paths, found.mends):
         if mend.pattern:
             groups.setdefault((mend.pattern, mend.giver), FoundFiles()).add([path], [mend])
-    made = (FileGroup(common_folder(files.paths) if giver is None else giver, giver is not None, pattern, files)
+    made = (PatternGroup(common_folder(files.paths) if giver is None else giver, giver is not None, pattern, files)
             for (pattern, giver), files in groups.items())
     return sorted(made, key=lambda it: -len(it.files))
 

@@ -39,20 +39,32 @@ def changed_by(audited: Audited, lines: List[Line]) -> Iterator[Tuple[int, bytes
             yield int(path_in(CHANGES, line)), line
 
 
+Given = FrozenSet[Tuple[Key, bytes]]  # Entries, by key and permissions.
+
+
+def given(entries: Iterable[Entry]) -> Given:
+    return frozenset((it.key, it.permissions) for it in entries)
+
+
 class Removal(NamedTuple):
     """Entries that go out of a record."""
 
     body: bytes
     entries: Tuple[Entry, ...]
 
-    def words(self, audited: Audited) -> bytes:
-        """The edit."""
+    def edit(self, audited: Audited) -> bytes:
         return b"setfacl -n -x " + b",".join(audited.ids.word(it.key) for it in self.entries)
+
+    def mend(self, audited: Audited, giver: Optional[bytes]) -> Mend:
+        """What is found of a file with the record, to which the default ACL of a directory may give the entries."""
+        shown = [audited.ids.shown(it.key) for it in self.entries]
+        pattern = b",".join(name.replace(b" ", b":", 1) + b":" + it.permissions for name, it in zip(shown, self.entries))
+        return Mend(b", ".join(shown), self.edit(audited), pattern=pattern, giver=giver)
 
 
 def of_no_effect(audited: Audited, removals: List[Removal]) -> List[Removal]:
     """Those that change nobody's rights."""
-    changed = {place for place, _ in changed_by(audited, [(it.body, it.words(audited)) for it in removals])}
+    changed = {place for place, _ in changed_by(audited, [(it.body, it.edit(audited)) for it in removals])}
     return [removal for place, removal in enumerate(removals) if place not in changed]
 
 
@@ -65,13 +77,6 @@ def removals(audited: Audited) -> Iterator[Removal]:
         of_body[body] = of_body.get(body, ()) + entries
     agreed = {it.body for it in of_no_effect(audited, [Removal(*it) for it in of_body.items() if len(it[1]) > 1])}
     return (Removal(body, entries if body in agreed else entries[:1]) for body, entries in of_body.items())
-
-
-Given = FrozenSet[Tuple[Key, bytes]]  # Entries, by key and permissions.
-
-
-def given(entries: Iterable[Entry]) -> Given:
-    return frozenset((it.key, it.permissions) for it in entries)
 
 
 class Givers:
@@ -92,21 +97,18 @@ class Givers:
 
 
 def without_effect(audited: Audited) -> FoundFiles:
-    """The files with entries that can go, each with their pattern and the directory whose default ACL gives them."""
-    by_body = {it.body: it for it in removals(audited)}
+    """The files with entries that can go."""
+    by_body, tree = {it.body: it for it in removals(audited)}, audited.tree
     by_kind = {kind: by_body[file.body] for kind, file in audited.kinds.items() if file.body in by_body}
-    found, givers, known = FoundFiles(), Givers(audited.tree.above), {}  # type: FoundFiles, Givers, Dict[Tuple[int, Optional[bytes]], Mend]
-    for run in audited.tree.runs if by_kind else []:
-        for place in range(run.start, run.end):
-            kind = audited.tree.kinds[place]
+    found, givers = FoundFiles(), Givers(tree.above)
+    for run in tree.runs if by_kind else []:
+        mends: Dict[int, Mend] = {}
+        for kind, path in zip(tree.kinds[run.start : run.end], tree.paths[run.start : run.end]):
             if kind in by_kind:
-                removal = by_kind[kind]
-                key = kind, None if run.folder is None else givers.of(run.folder, given(removal.entries))
-                if key not in known:
-                    shown = [audited.ids.shown(it.key) for it in removal.entries]
-                    pattern = b",".join(b"%s:%s" % (it.replace(b" ", b":", 1), entry.permissions) for it, entry in zip(shown, removal.entries))
-                    known[key] = Mend(b", ".join(shown), removal.words(audited), pattern=pattern, giver=key[1])
-                found.add([audited.tree.paths[place]], [known[key]])
+                if kind not in mends:
+                    giver = None if run.folder is None else givers.of(run.folder, given(by_kind[kind].entries))
+                    mends[kind] = by_kind[kind].mend(audited, giver)
+                found.add([path], [mends[kind]])
     return found
 
 

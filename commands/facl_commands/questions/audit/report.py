@@ -19,7 +19,7 @@ from .findings import (
     HIGH, KINDS, LOW, MAY_BE_MEANT, MIDDLE, OF_EVERYBODY, WEIGHTS, Accepted, Findings, FoundFiles, KindOfFinding, read_accepted,
     sort_out, why_unused,
 )
-from .groups import FileGroup, groups_of, line_of, not_known
+from .groups import PatternGroup, groups_of, line_of, not_known
 
 SCHEMA = "facl-audit/1"
 FIRST, GROUPS = 3, 10  # Names and groups of a finding.
@@ -83,7 +83,7 @@ class AuditReport:
         return b"".join(line + b"\n" for line in lines if is_all or line in self.known)
 
 
-def lines_of_groups(groups: List[FileGroup], is_whole: bool) -> Iterator[bytes]:
+def lines_of_groups(groups: List[PatternGroup], is_whole: bool) -> Iterator[bytes]:
     """The first groups of a finding that counts by these, a line each."""
     for it in groups[:GROUPS]:
         yield fitting_line(b"%s, %s: %s, first: %s" % (it.pattern, it.where(file_name(it.folder, is_whole)), counted(
