@@ -262,6 +262,13 @@ class MayBeMeant(Audits):
         self.expect(done, 0, b"# for facl plan, not for a shell\nsetfacl -n -m o::--x /srv/hr/in\n",
                     b"facl-audit: 3 files have no line; facl audit --list readable-by-everybody says what to decide\n")
 
+    def test_a_hard_link(self) -> None:
+        """No name of a file is removed."""
+        made = MADE["links-across-folders"]
+        self.assertEqual(self.found(made.records, b"links-across-folders", links=made.links), [[made.first, made.what, made.mend]])
+        self.expect(self.audit("--edits", "links-across-folders"), 0, b"",
+                    b"facl-audit: 1 file has no line; facl audit --list links-across-folders says what to decide\n")
+
     def test_counts_of_what_may_be_meant(self) -> None:
         self.take({b"/srv/hr/": OPEN, b"/srv/hr/in/": self.BOX, b"/srv/hr/in/a": PLAIN.replace(b"other::---", b"other::-w-")})
         self.assertIn(b"        may be meant: a drop box, which people write in and do not read (1 of 2 files)\n"

@@ -82,13 +82,17 @@ class Rights:
         paths = self.paths[start + (is_below and self.paths[start : start + 1] == [top]) : end]
         return [it for it in paths if self.is_directory(it) or it == top] if right == ENTER else paths
 
-    def some(self, right: bytes, top: bytes) -> Dict[bytes, int]:
-        """The users who may at least ask for a right on some file at or below a path, and on how many; of the root, where
-        it is not recorded, below the tops of the snapshot."""
+    def some(self, right: bytes, top: bytes, is_below: bool) -> Dict[bytes, int]:
+        """The users who may at least ask for a right on some file at or below a path, or below it, and on how many; of the
+        root, where it is not recorded, below the tops of the snapshot."""
         session = self.world.session
         tops = [top] if top or is_recorded(session, top) else find_tops(session, session.folder)
         lines = [line.split(b" ", 2) for line in self.ask(b"below", REQUESTS[right], *map(path_word, tops)).lines()]
-        return {read_name(user): int(count) for count, user, _ in lines}
+        found = {read_name(user): int(count) for count, user, _ in lines}
+        if is_below and is_recorded(session, top):
+            for name in map(read_name, self.ask(b"who", REQUESTS[right], path_word(top)).lines()):
+                found[name] -= 1
+        return {name: count for name, count in found.items() if count}
 
     def may(self, user: bytes, request: bytes, top: bytes) -> Set[bytes]:
         """The files at or below a path on which a user is granted a request. They follow each other in the answer, in
@@ -149,12 +153,12 @@ def subjects(rights: Rights, rule: Rule) -> List[bytes]:
 
 def outcome(rights: Rights, rule: Rule) -> RuleOutcome:
     """Whether a rule holds, and for whom it does not."""
-    asked, some = rights.asked(rule.right, rule.path, rule.is_below), rights.some(rule.right, rule.path)
+    asked, some = rights.asked(rule.right, rule.path, rule.is_below), rights.some(rule.right, rule.path, rule.is_below)
     if rule.kind == ONLY:
         rights.left_out |= some.keys() - rule.users - {*rights.users}
     violations: List[Violation] = []
     for place, user in enumerate(subjects(rights, rule)):
-        if rule.kind == ALWAYS and rule.right == READ and rights.is_all and not rule.is_below and some.get(user) == len(asked):
+        if rule.kind == ALWAYS and rule.right == READ and rights.is_all and some.get(user) == len(asked):
             continue  # It is so on all files, and `below` counts no others.
         paths = rights.granted(user, rule.right, rule.path, rule.is_below) if user in some else []
         if rule.kind == ALWAYS:  # Those that are missing.
@@ -183,7 +187,7 @@ def words_of(names: Set[bytes], reader: RuleReader) -> List[bytes]:
 
 def rules_of(rights: Rights, reader: RuleReader, right: bytes, top: bytes, is_below: bool) -> Iterator[List[bytes]]:
     """The rules on one right at or below a path, or below it, each as its words without right and path."""
-    number, some = len(rights.asked(right, top, is_below)), rights.some(right, top)
+    number, some = len(rights.asked(right, top, is_below)), rights.some(right, top, is_below)
     if not number:
         return
     counts = {name: len(rights.granted(name, right, top, is_below)) for name in rights.users if name in some}
