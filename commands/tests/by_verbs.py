@@ -21,7 +21,8 @@ MODULES = {"facl-who": "questions.who", "facl-audit": "questions.audit", "facl-c
            "facl-diff": "questions.diff", "facl-report": "page", "facl-plan": "plan", "facl-apply": "apply"}
 # Options of commands that verbs call otherwise, and those without which a command does the same.
 RENAMED = {"file_alone": "alone", "page": "output", "plan": "output", "names": "naming"}
-DEFAULTS = {"depth": 2, "umask": "022", "fail_on": "high", "reach": True, "dump": None, "passwd": None, "group_file": None}
+DEFAULTS = {"depth": 2, "umask": "022", "fail_on": "high", "weight": "middle", "reach": True, "dump": None, "passwd": None,
+            "group_file": None}
 # What is said of the snapshot before a verb uses it.
 NOTE = re.compile(rb"facl [a-z -]+: the snapshot .* is (?:\d+ [a-z]+ old|of the host .*, not of this one)\n")
 Words = Tuple[str, List[str]]  # A verb, and its operands.

@@ -46,6 +46,7 @@ def with_entries(body: bytes, *entries: bytes) -> bytes:
 
 
 FILE = b"/srv/hr/new"
+PROGRAM = b"may be meant: a program that others run so"
 MADE: Dict[str, Made] = {
     "writable-by-everybody": Made(
         {b"/srv/hr/": OPEN, FILE: PLAIN.replace(b"other::---", b"other::-w-")}, b"/srv/hr/new", b"",
@@ -63,17 +64,17 @@ MADE: Dict[str, Made] = {
         {FILE: PLAIN.replace(b"other::---", b"other::r--")}, b"/srv/hr/new", b"closed by /srv/hr",
         b"setfacl -n -m o::--- /srv/hr/new"),
     "set-user-id": Made(
-        {FILE: b"# owner: 1001\n# group: 2001\n# flags: ss-\nuser::rwx\ngroup::r-x\nother::---\n"}, b"/srv/hr/new", b"",
+        {FILE: b"# owner: 1001\n# group: 2001\n# flags: ss-\nuser::rwx\ngroup::r-x\nother::---\n"}, b"/srv/hr/new", PROGRAM,
         b"chmod 2750 /srv/hr/new", beside="set-group-id"),
     "set-group-id": Made(
-        {FILE: b"# owner: 1001\n# group: 2001\n# flags: -s-\nuser::rwx\ngroup::r-x\nother::---\n"}, b"/srv/hr/new", b"",
+        {FILE: b"# owner: 1001\n# group: 2001\n# flags: -s-\nuser::rwx\ngroup::r-x\nother::---\n"}, b"/srv/hr/new", PROGRAM,
         b"chmod 0750 /srv/hr/new"),
     "writable-by-teams": Made(
         {b"/srv/hr/both/": with_entries(FOLDER, b"group:2002:rwx"), b"/srv/hr/": with_entries(FOLDER, b"group:2002:--x")},
         b"/srv/hr/both", b"group hr, group law", b"chmod 1770 /srv/hr/both"),
     "writer-outside-groups": Made(
         {FILE: with_entries(PLAIN, b"user:1009:rw-"), b"/srv/hr/": with_entries(FOLDER, b"user:1009:--x")},
-        b"/srv/hr/new", b"user xaver", b"setfacl -n -x u:xaver /srv/hr/new"),
+        b"/srv/hr/new", b"user xaver", b"setfacl -n -m u:xaver:r-- /srv/hr/new"),
     "mask-cuts-entry": Made(
         {FILE: with_entries(PLAIN, b"user:1009:rwx").replace(b"mask::rwx", b"mask::r--"),
          b"/srv/hr/": with_entries(FOLDER, b"user:1009:--x")},
@@ -93,10 +94,11 @@ MADE: Dict[str, Made] = {
         b"setfacl -n -x u:4711,d:u:4711,d:g:4712 /srv/hr/sub", beside="default-differs"),
     "links-across-folders": Made(
         {b"/srv/hr/sub/": FOLDER, b"/srv/hr/sub/pay": CLEAN[b"/srv/hr/pay"]}, b"/srv/hr/sub/pay",
-        b"is one file with /srv/hr/pay", b"rm /srv/hr/sub/pay", links=b"/srv/hr/pay\n/srv/hr/sub/pay\n"),
+        b"is one file with /srv/hr/pay; may be meant: a hard link, by which folders share a file",
+        b"# decide: which names shall stay; all are one file with one owner, group and ACL", links=b"/srv/hr/pay\n/srv/hr/sub/pay\n"),
     "entry-without-effect": Made(
-        {FILE: with_entries(PLAIN, b"user:1001:r--", b"group:2002:---")}, b"/srv/hr/new", b"user anna, group law",
-        b"setfacl -n -x u:anna,g:law /srv/hr/new"),
+        {FILE: with_entries(PLAIN, b"user:1001:r--", b"group:2002:---")}, b"/srv/hr/new",
+        b"user:anna:r--,group:law:---, at or below /srv/hr", b"setfacl -n -x u:anna,g:law /srv/hr/new"),
     "default-not-inherited": Made(
         {b"/srv/hr/sub/": FOLDER + b"default:user::rwx\ndefault:group::rwx\ndefault:other::---\n",
          b"/srv/hr/sub/deep/": FOLDER}, b"/srv/hr/sub/deep", b"lacks the default ACL of /srv/hr/sub",
@@ -117,7 +119,7 @@ class Audits(SmallTree):
 
     def rows(self, *words: str) -> List[List[bytes]]:
         """The fields of its table."""
-        done = self.audit("--tsv", "--fail-on", "none", *words)
+        done = self.audit("--tsv", "--fail-on", "none", "--weight", "low", *words)
         self.assertEqual((done.status, done.messages), (0, b""))
         return [line.split(b"\t") for line in done.out.splitlines()[1:]]
 
@@ -143,14 +145,17 @@ class EachFinding(Audits):
         """After the lines nothing of it is found, and nobody has more than before."""
         for name, made in MADE.items():
             self.take(made.records, made.links)
-            self.write("edits", self.audit("--edits", name, "--fail-on", "none").out)
+            lines = self.audit("--edits", name, "--fail-on", "none").out
+            if name == "links-across-folders":  # A person decides.
+                self.assertEqual(lines, b"")
+                continue
+            self.write("edits", lines)
             done = self.run_command("facl-plan", ["--full", "--plan", "plan", "small", "edits"])
             self.assertEqual((name, done.status), (name, 0), done)
             for user, old, _, new, *_ in (line.split(b"\t") for line in done.out.splitlines() if b"\t" in line):
                 self.assertLessEqual(set(b"" if new in (b"none", b"absent") else new) - set(b"-"), set(old), (name, user, old, new))
-            if name != "links-across-folders":  # Names go by hand.
-                self.take({**made.records, **self.planned_records()})
-                self.assertNotIn(name.encode(), [row[1] for row in self.rows()])
+            self.take({**made.records, **self.planned_records()})
+            self.assertNotIn(name.encode(), [row[1] for row in self.rows()])
 
     def planned_records(self) -> Dict[bytes, bytes]:
         """The records of the plan, by names."""
@@ -161,8 +166,9 @@ class EachFinding(Audits):
         self.take({b"/srv/hr/": OPEN, b"/srv/hr/drop/": b"# owner: 0\n# group: 0\n# flags: --t\nuser::rwx\ngroup::rwx\nother::-wx\n",
                    b"/srv/hr/no/": b"# owner: 0\n# group: 0\nuser::rwx\ngroup::rwx\nother::-w-\n"})
         rows = self.rows()
-        self.assertEqual(rows, [[b"high", b"writable-by-everybody", b"1", b"/srv/hr/drop", b"sticky",
-                                 b"setfacl -n -m o::--x /srv/hr/drop"]])
+        self.assertEqual(rows, [[b"high", b"writable-by-everybody", b"1", b"/srv/hr/drop",
+                                 b"sticky; may be meant: a drop box, which people write in and do not read",
+                                 b"# decide: who drops files here; each line would keep somebody out"]])
 
     def test_one_folder_at_two_places(self) -> None:
         """A folder that is mounted twice has no hard links across folders."""
@@ -177,7 +183,7 @@ class EachFinding(Audits):
         group = GROUP + b"more:x:2003:carl\n"
         self.take({FILE: with_entries(PLAIN, b"group:2002:rw-", b"group:2003:rw-")}, group=group)
         found = [row for row in self.rows() if row[1] == b"entry-without-effect"]
-        self.assertEqual([row[4:] for row in found], [[b"group law", b"setfacl -n -x g:law /srv/hr/new"]])
+        self.assertEqual([row[4:] for row in found], [[b"group:law:rw-, at or below /srv/hr", b"setfacl -n -x g:law /srv/hr/new"]])
 
 
     def test_one_record_in_several_directories(self) -> None:
@@ -192,6 +198,159 @@ class EachFinding(Audits):
         self.assertEqual([row[1:5] for row in self.rows()], [
             [b"readable-by-everybody", b"1", b"/srv/hr/b", b""],
             [b"readable-behind-closed", b"1", b"/srv/hr/a/in/f", b"closed by /srv/hr/a"]])
+
+
+class MayBeMeant(Audits):
+    """What may be meant, and where a person decides in the place of a line."""
+
+    OF_BOX = b"# decide: who drops files here; each line would keep somebody out"
+    OF_TOP = b"# decide: who needs what is below; a change of a top folder is about all of it"
+    BELOW = b"# decide: who passes here to a drop box below; each line would keep somebody out"
+    BOX = FOLDER.replace(b"other::---", b"other::-wx")
+
+    def found(self, records: Dict[bytes, bytes], name: bytes, **more: bytes) -> List[List[bytes]]:
+        """The files of a finding, with what is found of each and its line."""
+        self.take(records, **more)
+        return self.rows("--list", name.decode())
+
+    def test_a_drop_box(self) -> None:
+        meant = b"may be meant: a drop box, which people write in and do not read"
+        for rest, name in ((b"", b"writable-behind-closed"), (OPEN, b"writable-by-everybody")):
+            rows = self.found({b"/srv/hr/": rest or FOLDER, b"/srv/hr/in/": self.BOX, b"/srv/hr/in/f": PLAIN}, name)
+            self.assertEqual(rows, [[b"/srv/hr/in", b"closed by /srv/hr; " * (not rest) + meant, self.OF_BOX]])
+        rows = self.found({b"/srv/hr/": with_entries(FOLDER, b"user:1009:--x"), b"/srv/hr/in/": with_entries(FOLDER, b"user:1009:-wx")},
+                          b"writer-outside-groups")
+        self.assertEqual(rows, [[b"/srv/hr/in", b"user xaver; " + meant, self.OF_BOX]])
+        for body, name, what in ((b"owner: 4711", b"owner-without-row", b"user 4711"), (b"user:4711:r--", b"entry-without-row", b"user 4711")):
+            record = self.BOX.replace(b"owner: 0", body) if name[:1] == b"o" else with_entries(self.BOX, body)
+            self.assertEqual(self.found({b"/srv/hr/in/": record}, name), [[b"/srv/hr/in", what, self.OF_BOX]])
+
+    def test_above_a_drop_box(self) -> None:
+        """A line that may take search from somebody keeps people from a drop box below; one that takes w does not."""
+        closed = with_entries(OPEN, b"user:1003:---").replace(b"mask::rwx", b"mask::---")
+        rows = self.found({b"/srv/hr/a/": closed, b"/srv/hr/a/in/": self.BOX}, b"empty-mask")
+        self.assertEqual(rows, [[b"/srv/hr/a", b"user carl: --- is --x", self.BELOW]])
+        rows = self.found({b"/srv/hr/a/": FOLDER.replace(b"other::---", b"other::rwx"), b"/srv/hr/a/in/": self.BOX}, b"writable-behind-closed")
+        self.assertEqual([row[2] for row in rows], [b"setfacl -n -m o::r-x /srv/hr/a", self.OF_BOX])
+
+    def test_a_reader_makes_no_drop_box(self) -> None:
+        rows = self.found({b"/srv/hr/": OPEN, b"/srv/hr/in/": FOLDER.replace(b"other::---", b"other::rwx")}, b"writable-by-everybody")
+        self.assertEqual(rows, [[b"/srv/hr/in", b"", b"setfacl -n -m o::r-x /srv/hr/in"]])
+
+    def test_folders_of_a_team_and_of_all(self) -> None:
+        team = FOLDER.replace(b"# group: 2001\n", b"# group: 2001\n# flags: %s\n")
+        rows = self.found({b"/srv/hr/": OPEN, b"/srv/hr/in/": team.replace(b"other::---", b"other::rwx") % b"-s-",
+                           b"/srv/hr/tmp/": team.replace(b"other::---", b"other::rwx") % b"-st"}, b"writable-by-everybody")
+        self.assertEqual([row[1] for row in rows], [
+            b"may be meant: a set-group-ID folder, in which a team shares its files",
+            b"sticky; may be meant: a sticky folder for all, as /tmp is, where nobody removes files of others"])
+        rows = self.found({b"/srv/hr/both/": with_entries(team % b"-s-", b"group:2002:rwx"),
+                           b"/srv/hr/": with_entries(FOLDER, b"group:2002:--x")}, b"writable-by-teams")
+        self.assertEqual(rows, [[b"/srv/hr/both", b"group hr, group law; may be meant: a set-group-ID folder, in which a team shares its files",
+                                 b"chmod 3770 /srv/hr/both"]])
+
+    def test_a_program_that_nobody_else_runs(self) -> None:
+        rows = self.found({FILE: b"# owner: 1001\n# group: 2001\n# flags: s--\nuser::rwx\ngroup::r--\nother::---\n"}, b"set-user-id")
+        self.assertEqual(rows, [[b"/srv/hr/new", b"", b"chmod 0740 /srv/hr/new"]])
+
+    def test_a_top_folder(self) -> None:
+        """A FOLDER of the snapshot, and what is above one or right below the root, has no line; what is in it has one."""
+        readable = FOLDER.replace(b"other::---", b"other::r-x")
+        rows = self.found({b"/srv/hr/": readable, b"/srv/hr/in/": readable}, b"readable-by-everybody")
+        self.assertEqual(rows, [[b"/srv/hr", b"", self.OF_TOP], [b"/srv/hr/in", b"", b"setfacl -n -m o::--x /srv/hr/in"]])
+        done = self.run_command("facl-audit", ["--edits", "readable-by-everybody", "small", "/"])
+        self.expect(done, 0, b"# for facl plan, not for a shell\nsetfacl -n -m o::--x /srv/hr/in\n",
+                    b"facl-audit: 3 files have no line; facl audit --list readable-by-everybody says what to decide\n")
+
+    def test_a_hard_link(self) -> None:
+        """No name of a file is removed."""
+        made = MADE["links-across-folders"]
+        self.assertEqual(self.found(made.records, b"links-across-folders", links=made.links), [[made.first, made.what, made.mend]])
+        self.expect(self.audit("--edits", "links-across-folders"), 0, b"",
+                    b"facl-audit: 1 file has no line; facl audit --list links-across-folders says what to decide\n")
+
+    def test_counts_of_what_may_be_meant(self) -> None:
+        self.take({b"/srv/hr/": OPEN, b"/srv/hr/in/": self.BOX, b"/srv/hr/in/a": PLAIN.replace(b"other::---", b"other::-w-")})
+        self.assertIn(b"        may be meant: a drop box, which people write in and do not read (1 of 2 files)\n"
+                      b"        decide: who drops files here; each line would keep somebody out\n", self.audit().out)
+
+    def test_a_group_without_a_row_that_has_members(self) -> None:
+        """Without the entry carl would have what others have."""
+        passwd = PASSWD.replace(b"1003:1003", b"1003:4712")
+        found = self.found({b"/srv/hr/": OPEN, FILE: with_entries(PLAIN.replace(b"other::---", b"other::r--"), b"group:4712:---")},
+                           b"entry-without-row", passwd=passwd)
+        whose = b"# decide: whose it is; the line that takes the id out would grant something to users"
+        self.assertEqual(found, [[b"/srv/hr/new", b"group 4712", whose]])
+        found = self.found({FILE: PLAIN.replace(b"group: 2001", b"group: 4712")}, b"owner-without-row", group=GROUP.replace(b"root:x:0:", b"root:x:0:anna"))
+        self.assertEqual(found, [[b"/srv/hr/new", b"group 4712", whose]])
+
+
+class Weights(Audits):
+    """Findings of weight low are counted, and not shown without --weight; entries without effect by folder and pattern."""
+
+    DEFAULT = b"default:user::rwx\ndefault:user:1001:r--\ndefault:group::rwx\ndefault:mask::rwx\ndefault:other::---\n"
+    NAMED = with_entries(PLAIN, b"user:1001:r--")
+    HEAD = b"small (of srva, 2026-11-27T03:10:00Z): 8 files at or below /srv/hr\n"
+
+    def setUp(self) -> None:
+        super().setUp()
+        self.take({b"/srv/hr/team/": FOLDER + self.DEFAULT, b"/srv/hr/team/deep/": FOLDER + self.DEFAULT,
+                   **dict.fromkeys((b"/srv/hr/team/a", b"/srv/hr/team/b", b"/srv/hr/team/deep/c", b"/srv/hr/other"), self.NAMED)})
+
+    def test_what_is_not_shown_is_counted(self) -> None:
+        wanted = self.HEAD + b"findings: 2 low\n6 files in 2 low findings not shown; --weight low shows them\n"
+        self.expect(self.audit(), 0, wanted)
+        self.expect(self.audit("--fail-on", "low"), 1, wanted)
+        self.expect(self.audit("--tsv"), 0, b"WEIGHT\tFINDING\tFILES\tFIRST\tWHAT\tFOR FACL PLAN\n")
+        self.take(MADE["set-group-id"].records)
+        self.assertTrue(self.audit("--weight", "high").out.endswith(
+            b"\nfindings: 1 middle\n1 file in 1 middle finding not shown; --weight middle shows it\n"))
+
+    def test_groups(self) -> None:
+        wanted = self.HEAD + b"""\
+low     entry-without-effect    4 files
+        an entry that can go: without it all users of the snapshot have the same rights
+        user:anna:r--, by the default ACL of /srv/hr/team: 3 files, first: /srv/hr/team/a
+        user:anna:r--, at or below /srv/hr: 1 file, first: /srv/hr/other
+        for facl plan: setfacl -n -x u:anna /srv/hr/team/a
+low     default-differs         2 files
+        new files here get entries for other users or groups than the directory has
+        first: /srv/hr/team (new files alone get one of user anna)
+        then:  /srv/hr/team/deep
+        for facl plan: setfacl -n -x d:u:anna /srv/hr/team
+findings: 2 low
+all files of one: facl audit --list entry-without-effect -s small
+all lines of one: facl audit fix entry-without-effect -s small >edits; facl plan -s small edits
+"""
+        self.expect(self.audit("--weight", "low"), 0, wanted)
+        rows = [row for row in self.rows() if row[1] == b"entry-without-effect"]
+        self.assertEqual([row[2:5] for row in rows], [
+            [b"3", b"/srv/hr/team/a", b"user:anna:r--, by the default ACL of /srv/hr/team"],
+            [b"1", b"/srv/hr/other", b"user:anna:r--, at or below /srv/hr"]])
+
+    def test_groups_in_json(self) -> None:
+        found = json.loads(self.audit("--json", "--weight", "low").out)
+        self.assertEqual((found["weight"], found["not_shown"]), ("low", {"findings": [], "count": 0}))
+        self.assertEqual(found["findings"][0]["groups"], [
+            {"folder": "/srv/hr/team", "by_default_acl": True, "pattern": "user:anna:r--", "count": 3, "path": "/srv/hr/team/a"},
+            {"folder": "/srv/hr", "by_default_acl": False, "pattern": "user:anna:r--", "count": 1, "path": "/srv/hr/other"}])
+        self.assertEqual(found["findings"][1]["groups"], [])
+        found = json.loads(self.audit("--json").out)
+        self.assertEqual((found["findings"], found["not_shown"]),
+                         ([], {"findings": ["entry-without-effect", "default-differs"], "count": 6}))
+
+    def test_the_nearest_folder(self) -> None:
+        """Of files that no default ACL gives the entries to: what all of them are at or below."""
+        self.take(dict.fromkeys((b"/srv/hr/a/b/1", b"/srv/hr/a/b/2", b"/srv/hr/a/c/3"), self.NAMED))
+        self.assertEqual([row[4] for row in self.rows()], [b"user:anna:r--, at or below /srv/hr/a"])
+        self.take({b"/srv/hr/a/1": self.NAMED, b"/srv/hr/a/2": with_entries(PLAIN, b"user:1001:rw-")})
+        self.assertEqual([row[4] for row in self.rows()], [b"user:anna:r--, at or below /srv/hr/a", b"user:anna:rw-, at or below /srv/hr/a"])
+
+    def test_one_finding_is_shown_by_its_name(self) -> None:
+        rows = self.audit("--tsv", "--list", "entry-without-effect").out.splitlines()
+        self.assertEqual(rows[1:3], [b"/srv/hr/other\tuser anna\tsetfacl -n -x u:anna /srv/hr/other",
+                                     b"/srv/hr/team/a\tuser anna\tsetfacl -n -x u:anna /srv/hr/team/a"])
+        self.assertEqual(self.audit("--edits", "default-differs").out.splitlines()[1:], [b"setfacl -n -x d:u:anna /srv/hr/team /srv/hr/team/deep"])
 
 
 class EverybodyElse(Audits):
@@ -248,11 +407,13 @@ small (of srva, 2026-11-27T03:10:00Z): 5 files at or below /srv/hr
 high    set-user-id             1 file
         a plain file that is run with the rights of its owner
         first: /srv/hr/new
+        may be meant: a program that others run so
         for facl plan: chmod 2750 /srv/hr/new
 middle  set-group-id            2 files
         a plain file that is run with the rights of its group
         first: /srv/hr/new
         then:  /srv/hr/sub/x
+        may be meant: a program that others run so
         for facl plan: chmod 4750 /srv/hr/new
 findings: 1 high, 1 middle
 all files of one: facl audit --list set-user-id -s small
@@ -276,7 +437,10 @@ all lines of one: facl audit fix set-user-id -s small >edits; facl plan -s small
         self.write("small/meta", b"")
         out = self.audit().out
         self.assertTrue(out.startswith(b"small: 7 files at or below srv, x\n"), out)
-        self.assertIn(b"        first: srv/hr/new\n        then:  srv/hr/sub/x\n        for facl plan: chmod 4750 srv/hr/new\n", out)
+        self.assertIn(b"        first: srv/hr/new\n        then:  srv/hr/sub/x\n        %s\n"
+                      b"        for facl plan: chmod 4750 srv/hr/new\n" % PROGRAM, out)
+        self.assertIn(b"        first: srv\n        then:  x\n        decide: who needs what is below; a change of a top folder is "
+                      b"about all of it\n", out)
         self.assertEqual(json.loads(self.audit("--json").out)["folders"], ["srv", "x"])
 
     def test_a_page_without_a_name(self) -> None:
@@ -297,7 +461,7 @@ all lines of one: facl audit fix set-user-id -s small >edits; facl plan -s small
 
     def test_list_and_edits(self) -> None:
         self.expect(self.audit("--list", "set-group-id", "--tsv"), 1, b"FILE\tWHAT\tFOR FACL PLAN\n"
-                    b"/srv/hr/new\t\tchmod 4750 /srv/hr/new\n/srv/hr/sub/x\t\tchmod 0750 /srv/hr/sub/x\n")
+                    b"/srv/hr/new\t%s\tchmod 4750 /srv/hr/new\n/srv/hr/sub/x\t%s\tchmod 0750 /srv/hr/sub/x\n" % (PROGRAM, PROGRAM))
         self.expect(self.audit("--edits", "set-group-id"), 1, b"# for facl plan, not for a shell\n"
                     b"chmod 4750 /srv/hr/new\nchmod 0750 /srv/hr/sub/x\n")
 
@@ -312,7 +476,9 @@ all lines of one: facl audit fix set-user-id -s small >edits; facl plan -s small
         self.assertEqual(found["schema"], "facl-audit/1")
         self.assertEqual([(it["finding"], it["weight"], it["count"]) for it in found["findings"]],
                          [("set-user-id", "high", 1), ("set-group-id", "middle", 2)])
-        self.assertEqual(found["findings"][0]["files"], [{"path": "/srv/hr/new", "what": "", "edit": "chmod 2750 /srv/hr/new"}])
+        self.assertEqual(found["findings"][0]["files"], [{
+            "path": "/srv/hr/new", "what": "", "edit": "chmod 2750 /srv/hr/new", "may_be_meant": "a program that others run so",
+            "decide": ""}])
         one = json.loads(self.audit("--json", "--list", "set-group-id").out)
         self.assertEqual([len(it["files"]) for it in one["findings"]], [2])
 
@@ -320,6 +486,62 @@ all lines of one: facl audit fix set-user-id -s small >edits; facl plan -s small
         self.assertEqual(self.audit("--list", "nothing").status, 2)
         self.expect(self.run_command("facl-audit", ["nix"]), 2, b"",
                     b"facl-audit: nix: no such folder; make a snapshot with facl snapshot\n")
+
+
+class KnownFindings(TwoKinds):
+    """What an earlier run said of a finding is one line; new files are in full."""
+
+    STANDS = b"""\
+small (of srva, 2026-11-27T03:10:00Z): 5 files at or below /srv/hr
+high    set-user-id             1 file, as in the last run
+middle  set-group-id            2 files, as in the last run
+findings: 1 high, 1 middle
+all files of one: facl audit --list set-user-id -s small
+all lines of one: facl audit fix set-user-id -s small >edits; facl plan -s small edits
+"""
+
+    def test_what_stands_is_a_line(self) -> None:
+        first = self.audit("--now-known", "one").out
+        self.assertEqual((first, b"as in the last run" in first), (self.audit().out, False))
+        self.expect(self.audit("--known", "one", "--now-known", "two"), 1, self.STANDS)
+        self.assertEqual((self.read("one"), os.stat(self.path("two")).st_mode & 0o777), (self.read("two"), 0o600))
+        self.take({**MADE["set-user-id"].records, b"/srv/hr/sub/": FOLDER, b"/srv/hr/sub/x": MADE["set-group-id"].records[FILE],
+                   b"/srv/hr/sub/y": MADE["set-group-id"].records[FILE]})
+        self.assertIn(b"1 file, as in the last run\nmiddle  set-group-id            1 more file, 3 in all\n"
+                      b"        a plain file that is run with the rights of its group\n        first: /srv/hr/sub/y\n",
+                      self.audit("--known", "two").out)
+
+    def test_a_finding_that_is_another_one(self) -> None:
+        self.take(MADE["mask-cuts-entry"].records)
+        self.audit("--fail-on", "middle", "--now-known", "one")
+        self.assertIn(b"1 file, as in the last run\n", self.audit("--known", "one").out)
+        self.take({**MADE["mask-cuts-entry"].records, FILE: MADE["mask-cuts-entry"].records[FILE].replace(b"mask::r--", b"mask::-w-")})
+        self.assertIn(b"user xaver: rwx is -w-", self.audit("--known", "one").out)
+
+    def test_what_was_not_said_is_not_known(self) -> None:
+        """A run that says nothing, as nothing fails, leaves what is new to be said, and what stands as it was."""
+        self.audit("--fail-on", "none", "--now-known", "one")
+        self.assertEqual(self.read("one"), b"")
+        self.audit("--now-known", "two")
+        self.audit("--fail-on", "none", "--known", "two", "--now-known", "three")
+        self.assertEqual(self.read("three"), self.read("two"))
+        self.take({FILE: Weights.NAMED})
+        self.audit("--fail-on", "low", "--known", "two", "--now-known", "four")
+        self.assertEqual(self.read("four"), b"")
+
+    def test_a_damaged_file(self) -> None:
+        self.audit("--now-known", "one")
+        self.write("one", self.read("one")[:-5])
+        os.chmod(self.path("one"), 0o600)
+        out = self.audit("--known", "one").out
+        self.assertIn(b"1 file, as in the last run\nmiddle  set-group-id            1 more file, 2 in all\n", out)
+        for text, mode in ((b"\xff\0", 0o600), (b"", 0o600), (self.read("one"), 0o666)):
+            self.write("one", text)
+            os.chmod(self.path("one"), mode)
+            self.assertEqual(self.audit("--known", "one").out, self.audit().out)
+        done = self.audit("--known", "nix")
+        self.assertEqual((done.status, done.messages, done.out), (
+            1, b"facl-audit: nix: No such file or directory; all findings are said\n", self.audit().out))
 
 
 class AcceptedFindings(TwoKinds):
@@ -385,7 +607,7 @@ class Hostile(Audits):
         passwd = PASSWD.replace(b"xaver:", b"o'x \x1b[1m,y:")
         self.take(MADE["writer-outside-groups"].records, passwd=passwd)
         row = self.rows()[0]
-        self.assertEqual(row[5], b"setfacl -n -x u:1009 /srv/hr/new")
+        self.assertEqual(row[5], b"setfacl -n -m u:1009:r-- /srv/hr/new")
         self.assertNotIn(b"\x1b", self.audit().out)
 
 

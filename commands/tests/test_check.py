@@ -28,6 +28,12 @@ TREE = {
 }
 
 
+FORM = b"a rule is never|only|always WHO.. read|write|enter [below] PATH"
+NO_USER = b"word 2: no such user in the snapshot: write a name or an id of its passwd"
+NO_KIND, NO_RIGHT = b"word 1: write never, only or always; " + FORM, b"no right: write read, write or enter before the PATH; " + FORM
+ONLY_ELSE = (b"only everybody else: there is nobody beside whom a rule could keep out; write never people, or never with who shall not")
+
+
 class Checks(SmallTree):
     """Runs of facl-check over a small snapshot."""
 
@@ -76,6 +82,50 @@ class Forms(Checks):
     def test_others(self) -> None:
         self.assertEqual(self.broken(b"never others write /"), [])
         self.assertEqual(self.broken(b"never others read /"), [b"everybody else 2 /"])
+
+    def test_below(self) -> None:
+        """What is below a folder, and not the folder itself, with or without a final slash."""
+        for path in (b"srv/hr/cases", b"/srv/hr/cases/"):
+            self.assertEqual(self.broken(b"never xaver enter below " + path), [])
+            self.assertEqual(self.broken(b"never xaver enter " + path), [b"xaver 1 /srv/hr/cases"])
+        self.assertEqual(self.broken(b"never xaver read below /srv"), [b"xaver 3 /srv/hr"])
+        self.assertEqual(self.broken(b"only @hr write below srv/hr/tools"), [])
+        self.assertEqual(self.broken(b"only bert read below srv/hr/cases/"), [b"anna 4 /srv/hr/cases/full", b"xaver 2 /srv/hr/cases/one"])
+        self.assertEqual(self.broken(b"always anna read below srv/hr/cases"), [])
+        self.assertEqual(self.broken(b"always xaver read below srv/hr/cases"), [b"xaver 2 /srv/hr/cases/full"])
+        self.assertEqual(self.broken(b"always everybody else read below /"), [b"everybody else 8 /srv/hr"])
+        found = json.loads(self.check(b"never anna read below srv/hr/cases/\n", "--json").out)["rules"][0]
+        self.assertEqual((found["rule"], found["count"]), ("never anna read below srv/hr/cases/", 4))
+
+    def test_words_that_look_like_below(self) -> None:
+        self.take({**TREE, b"/srv/below": FILE % b"rw-"}, passwd=PASSWD.replace(b"bert:", b"below:").replace(b"carl:", b"read:"))
+        self.assertEqual(self.broken(b"never below anna read srv/below"), [b"anna 1 /srv/below"])
+        self.assertEqual(self.broken(b"never read read below srv"), [])
+
+    def test_groups_by_name(self) -> None:
+        for words in (b"group hr", b"@hr", b"group 2001", b"group 'hr'"):
+            self.assertEqual(self.broken(b"never %s write below srv/hr/cases/full" % words), [
+                b"anna 1 /srv/hr/cases/full/three", b"bert 1 /srv/hr/cases/full/three"], words)
+        self.assertEqual(self.broken(b"only group hr xaver read srv/hr"), [])
+        self.assertEqual(self.broken(b"never carl group law group hr write srv/hr/cases/two"), [b"anna 1 /srv/hr/cases/two"])
+
+    def test_a_user_named_group(self) -> None:
+        self.take(TREE, passwd=PASSWD.replace(b"xaver:", b"group:"))
+        for words in (b"group", b"'group'", b"carl group", b"'group' carl"):
+            self.assertEqual(self.broken(b"never %s read srv/hr/cases/one" % words), [b"group 1 /srv/hr/cases/one"], words)
+
+    def test_everybody_else(self) -> None:
+        for words in (b"everybody else", b"'everybody else'", b"others"):
+            self.assertEqual(self.broken(b"never %s write /" % words), [])
+            self.assertEqual(self.broken(b"never %s read /" % words), [b"everybody else 2 /"])
+            self.assertEqual(self.broken(b"never carl %s anna read /srv" % words), [
+                b"everybody else 1 /srv", b"anna 9 /srv", b"carl 1 /srv"], words)
+            self.assertEqual(self.broken(b"always %s enter below srv/hr" % words), [])
+        self.assertEqual(self.broken(b"never everybody read srv/hr/cases/one"), [
+            b"anna 1 /srv/hr/cases/one", b"bert 1 /srv/hr/cases/one", b"xaver 1 /srv/hr/cases/one"])
+        self.take(TREE, passwd=PASSWD.replace(b"xaver:", b"everybody else:"))
+        self.assertEqual(self.broken(b"never 'everybody else' read srv/hr/cases/one"), [b"everybody\\040else 1 /srv/hr/cases/one"])
+        self.assertEqual(self.broken(b"never everybody else read srv/hr/cases/one"), [])
 
     def test_names_that_begin_alike(self) -> None:
         """What is at or below a path, and nothing beside it that comes before or after in the order of bytes."""
@@ -136,6 +186,29 @@ class Forms(Checks):
         self.assertEqual(self.broken(b"never root write srv/hr/", "--with-root"), [b"root 1 /srv/hr"])
         self.expect(self.check(b"never root write srv/hr/\n"), 2, b"", b"facl-check: rules, line 1: word 2: a user of the uid 0, to "
                     b"whom the kernel grants nearly everything: leave it out, or give --with-root to judge it as any other user\n")
+
+
+class Page(Checks):
+    """The forms that facl-rules(5) has, in a tree where finance writes in /srv/fin, and /srv/teams can be listed by all."""
+
+    TREE = {b"/srv/teams/": b"# owner: 0\n# group: 0\nuser::rwx\ngroup::r-x\nother::r-x\n",
+            b"/srv/teams/plan": b"# owner: 0\n# group: 0\nuser::rw-\ngroup::r--\nother::---\n",
+            b"/srv/fin/": b"# owner: 0\n# group: 2003\nuser::rwx\ngroup::rwx\nother::---\n",
+            b"/srv/fin/book": b"# owner: 0\n# group: 2003\nuser::rw-\ngroup::rw-\nother::---\n"}
+    OF_HR = [b"anna 2 /srv/hr", b"bert 2 /srv/hr"]
+    FORMS = {"never guest read below /srv/teams": [], "never guest read /srv/teams": [b"guest 1 /srv/teams"],
+             "only group finance write below /srv/fin": [], "only ines mara write /srv/fin": [],
+             "always group finance read /srv/fin": [], "never everybody else write /srv": [],
+             "never people read /srv/hr": OF_HR, "never everybody read /srv/hr": OF_HR}
+
+    def test_its_forms(self) -> None:
+        users = b"".join(b"%s:x:%d:%d::/:/bin/sh\n" % (name, uid, uid) for uid, name in ((1010, b"guest"), (1011, b"ines"), (1012, b"mara")))
+        self.take(self.TREE, passwd=PASSWD + users, group=GROUP + b"finance:x:2003:ines,mara\n")
+        with open(os.path.join(COMMANDS, "..", "docs", "pages", "facl-rules.5.md"), encoding="utf-8") as file:
+            forms = re.findall(r"^\| `((?:never|only|always) [^`]*)` \|", file.read(), re.MULTILINE)
+        self.assertEqual(forms, [*self.FORMS])
+        for form, wanted in self.FORMS.items():
+            self.assertEqual((form, self.broken(form.encode())), (form, wanted))
 
 
 class Report(Checks):
@@ -221,7 +294,7 @@ class Digits(Checks):
 
     def test_more_digits_than_a_number_may_have(self) -> None:
         self.expect(self.check(b"never %s read srv/hr/\n" % (b"9" * 5000)), 2, b"",
-                    b"facl-check: rules, line 1: word 2: no such user in the snapshot\n")
+                    b"facl-check: rules, line 1: " + NO_USER + b"\n")
 
 
 class Comments(Checks):
@@ -242,12 +315,16 @@ class WrongRules(Checks):
     def test_each_fault_is_said(self) -> None:
         done = self.check(b"never anna read srv/hr/\nnever nobody read srv/hr/\nonly @nix read srv/hr/\nalways anna read srv/nix\n"
                           b"never hr read srv/hr/\nnever anna see srv/hr/\nnever 4711 read srv/hr/\nnever 'anna read srv\n"
-                          b"never anna read srv/../srv\nnever read srv/hr/\nnever anna read ''\n")
-        form = b"a rule is never|only|always WHO.. read|write|enter PATH"
-        texts = [b"word 2: no such user in the snapshot", b"word 2: no such group in the snapshot", b"word 4: no such file in the snapshot",
-                 b"word 2: no such user in the snapshot, but a group: write @ before it", form, b"word 2: no such user in the snapshot",
-                 b"a single quote is open: in a name write it as \\047", b"word 4: write the path from the root, without ..", form,
-                 b"an empty word is not a PATH; / means all files"]
+                          b"never anna read srv/../srv\nnever read srv/hr/\nnever anna read ''\nonly everybody else read /\n"
+                          b"only anna 'everybody else' read /\nnever group read /\nnever group law group nix read /\nmaybe anna read /\n"
+                          b"never anna read below srv/hr/cases/one\nbelow /\nnever anna read\nnever everybody else else read /\n")
+        texts = [NO_USER, b"word 2: no such group in the snapshot: write a name or an id of its group", b"word 4: no such file in the "
+                 b"snapshot: write the whole name of one that is recorded", b"word 2: no such user in the snapshot, but a group: write "
+                 b"group before it", NO_RIGHT, NO_USER, b"a single quote is open: in a name write it as \\047",
+                 b"word 4: write the path from the root, without ..", b"nobody is named: write users, group NAME, people, everybody else "
+                 b"or everybody after the first word; " + FORM, b"an empty word is not a PATH; / means all files", ONLY_ELSE, ONLY_ELSE,
+                 b"word 2: write the name of a group after group", b"word 5: no such group in the snapshot: write a name or an id of its group",
+                 NO_KIND, b"word 5: is no folder, so nothing is below it: leave out below", NO_KIND, NO_RIGHT, NO_USER.replace(b"2", b"4")]
         wanted = b"".join(b"facl-check: rules, line %d: %s\n" % (place, text) for place, text in enumerate(texts, 2))
         self.expect(done, 2, b"", wanted)
 
@@ -257,7 +334,7 @@ class WrongRules(Checks):
         self.expect(self.run_command("facl-check", ["small"]), 2, b"", b"facl-check: RULES is missing; facl rules FOLDER >rules "
                     b"writes those that hold now\n")
         self.expect(self.run_command("facl-check", ["small", "-"], b"never anna see srv\n"), 2, b"", b"facl-check: standard input, "
-                    b"line 1: a rule is never|only|always WHO.. read|write|enter PATH\n")
+                    b"line 1: " + NO_RIGHT + b"\n")
         rows = self.read("small/passwd")
         for row in (b"+", b"zoe:x:one:100::/:/bin/sh"):
             self.write("small/passwd", row + b"\n" + rows)
@@ -279,16 +356,25 @@ class Written(Checks):
         self.assertEqual((done.status, done.messages), (0, b""))
         lines = [line for line in done.out.splitlines() if line and not line.startswith(b"#")]
         self.assertEqual(lines[:6], [
-            b"never others read /srv/hr/", b"only @hr xaver read /srv/hr/", b"always @hr read /srv/hr/",
-            b"never others write /srv/hr/", b"only @hr write /srv/hr/", b"always anna write /srv/hr/"])
-        self.assertIn(b"always @hr write /srv/hr/cases/one", lines)
+            b"never everybody else read /srv/hr/", b"only group hr xaver read /srv/hr/", b"always group hr read /srv/hr/",
+            b"never everybody else write /srv/hr/", b"only group hr write /srv/hr/", b"always anna write /srv/hr/"])
+        self.assertIn(b"always group hr write /srv/hr/cases/one", lines)
+        self.assertEqual(self.rows(done.out), [])
+
+    def test_rules_below(self) -> None:
+        """Where everybody else may read the folder itself, the rules on what is below it are written."""
+        base = b"# owner: 0\n# group: 2001\nuser::rwx\ngroup::r-x\nother::"
+        self.take({b"/srv/hr/": base + b"r-x\n", b"/srv/hr/pay": base + b"---\n"})
+        done = self.run_command("facl-check", ["--write", "small"])
+        self.assertEqual([line for line in done.out.splitlines() if b" read " in line], [
+            b"always group hr read /srv/hr/", b"never everybody else read below /srv/hr", b"only group hr read below /srv/hr"])
         self.assertEqual(self.rows(done.out), [])
 
     def test_a_user_named_as_a_word(self) -> None:
-        for word in (b"others", b"people", b"everybody"):
+        for word in (b"others", b"people", b"everybody", b"else", b"group"):
             self.take(TREE, passwd=PASSWD.replace(b"xaver:", word + b":"))
             done = self.run_command("facl-check", ["--write", "small", "srv/hr"])
-            self.assertIn(b"only @hr '%s' read /srv/hr/\n" % word, done.out)
+            self.assertIn(b"only group hr '%s' read /srv/hr/\n" % word, done.out)
             self.assertEqual(self.rows(done.out), [])
             self.assertEqual(self.broken(b"never '%s' read srv/hr/" % word), [word + b" 3 /srv/hr"])
 
@@ -315,7 +401,7 @@ class Written(Checks):
 
     def test_where_no_rule_holds(self) -> None:
         base = b"# owner: 0\n# group: 0\nuser::rwx\ngroup::rwx\nother::"
-        self.take({b"/srv/hr/": base + b"rwx\n", b"/srv/hr/pay": base + b"---\n"})
+        self.take({b"/srv/hr/": base + b"rwx\n", b"/srv/hr/pay": base + b"---\n", b"/srv/hr/open": base + b"rwx\n"})
         done = self.run_command("facl-check", ["--write", "small"])
         self.assertEqual((done.status, done.messages), (0, b""))
         self.assertTrue(done.out.endswith(b"\n\n# /srv/hr/\n# none: others may read some of these files, and write some, and no user "
@@ -333,7 +419,7 @@ class Written(Checks):
         for name, word in ((b"$(id)", b"'/srv/hr/$(id)'"), (b"`id`", b"'/srv/hr/`id`'"), (b"a;b", b"'/srv/hr/a;b'"), (b"a-b.c", b"/srv/hr/a-b.c")):
             self.take({b"/srv/hr/" + name: FILE % b"rw-"})
             done = self.run_command("facl-check", ["--write", "small", os.fsdecode(b"srv/hr/" + name)])
-            self.assertIn(b"\nnever others read " + word + b"\n", done.out)
+            self.assertIn(b"\nnever everybody else read " + word + b"\n", done.out)
             self.assertEqual(self.rows(done.out), [])
 
 

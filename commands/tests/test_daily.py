@@ -11,7 +11,7 @@ import sys
 import tempfile
 import time
 import unittest
-from typing import List, Optional
+from typing import Callable, List, Optional
 
 from common import COMMANDS, Case, Done, restore_signals
 from snapshot_stand_ins import all_commands_with
@@ -22,7 +22,7 @@ from facl_commands.verbs.options import BY_FIELD  # noqa: E402
 from facl_commands.verbs.table import BY_VERB  # noqa: E402
 
 NEEDED = ("getfacl", "setfacl")
-LOCK = "lock.of-facl-daily"
+LOCK, FOUND = "lock.of-facl-daily", "found.by-facl-daily"
 # What the system lists, at the end of command.py of facl-snapshot.
 PEOPLE = """
 import pwd
@@ -59,7 +59,7 @@ middle  readable-by-everybody   2 files
         everybody else, whom no ACL names, can read it along its path
         first: TOP/tree
         then:  TOP/tree/file
-        for facl plan: setfacl -n -m o::--x TOP/tree
+        decide: who needs what is below; a change of a top folder is about all of it
 findings: 1 high, 1 middle
 all files of one: facl audit --list writable-by-everybody -s TOP/kept/DAY.2
 all lines of one: facl audit fix writable-by-everybody -s TOP/kept/DAY.2 >edits; facl plan -s TOP/kept/DAY.2 edits
@@ -121,7 +121,7 @@ class Daily(Case):
     def kept(self) -> List[str]:
         """The names in its folder, without the day and the lock."""
         day = time.strftime("%Y-%m-%d")
-        return [name.replace(day, "DAY") for name in sorted(os.listdir(self.path("kept"))) if name != LOCK]
+        return [name.replace(day, "DAY") for name in sorted(os.listdir(self.path("kept"))) if name not in (LOCK, FOUND)]
 
     def plain(self, text: bytes) -> str:
         """A text with its parts that are others each day."""
@@ -170,6 +170,35 @@ class Week(Daily):
         wanted = MAIL.partition("\n\n")[2].replace("DAY.2", "DAY").replace("== changes since DAY (facl diff)\n..\n\n", "")
         self.assertEqual((done.status, self.plain(done.out), done.messages), (1, wanted, b""))
         self.assertEqual(os.stat(self.path("kept")).st_mode & 0o777, 0o700)
+
+    def test_a_finding_that_stands_is_a_line(self) -> None:
+        os.chmod(os.path.join(self.tree, "file"), 0o646)
+        full = self.findings(self.daily())
+        self.assertIn("first: TOP/tree/file", full)
+        stands = ("high    writable-by-everybody   1 file, as in the last run\n"
+                  "middle  readable-by-everybody   2 files, as in the last run\nfindings: 1 high, 1 middle\n")
+        self.assertIn(stands, self.findings(self.daily()))
+        self.make("more", 0o602)
+        self.assertIn("high    writable-by-everybody   1 more file, 2 in all\n        everybody else, whom no ACL names, can write "
+                      "it along its path\n        first: TOP/tree/more\n", self.findings(self.daily()))
+        os.unlink(os.path.join(self.tree, "more"))
+        self.assertIn(stands, self.findings(self.daily()))
+        damages: List[Callable[[str], None]] = [lambda name: os.chmod(name, 0o644), os.unlink, lambda name: os.truncate(name, 0)]
+        for damage in damages:
+            damage(self.path("kept/" + FOUND))
+            self.assertEqual(re.sub(r"DAY[.\d]*", "DAY", self.findings(self.daily())), re.sub(r"DAY[.\d]*", "DAY", full))
+
+    def findings(self, done: Done) -> str:
+        """What a run says of findings."""
+        self.assertEqual((done.status, done.messages), (1, b""))
+        return self.plain(done.out).partition("== findings (facl audit)\n")[2].partition("\n== ")[0]
+
+    def test_what_was_not_sent_is_not_known(self) -> None:
+        os.chmod(os.path.join(self.tree, "file"), 0o646)
+        self.write("stubs/broken", b"")
+        self.assertEqual(self.daily("--mail", "root").status, 2)
+        os.unlink(self.path("stubs/broken"))
+        self.assertIn("first: TOP/tree/file", self.findings(self.daily()))
 
     def test_no_finding_counts(self) -> None:
         os.chmod(os.path.join(self.tree, "file"), 0o646)
@@ -255,6 +284,7 @@ class Faults(Daily):
     def test_words(self) -> None:
         for words, text in ((["--keep", "0"], b"--keep 0: is not a number of snapshots"), (["--keep"], b"--keep: takes a word"),
                             (["--mail", "a b"], b"--mail a b: is not an address"), (["--fail-on", "x"], b"give high, middle, low or none"),
+                            (["--weight", "none"], b"--weight none: give high, middle or low"),
                             (["--split", "0"], b"--split 0: is not a number from 1 to 9999999"), (["--nix"], b"--nix: is not an option")):
             done = self.daily(*words, folders=[] if words == ["--keep"] else None)
             self.assertEqual((done.status, done.out, text in done.messages), (2, b"", True), done)

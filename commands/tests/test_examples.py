@@ -48,7 +48,7 @@ BLOCKS: Dict[str, str] = {
     "facl rules /srv >rules": "has an editor in it",
     "facl snapshot /srv": "the other examples run it",
     "FINDING PATH REASON": "a form; test_audit.py",
-    "never   xaver           read   /srv/finance/    # a contractor": "a form; test_check.py",
+    "never   xaver               read   below /srv/finance   # a contractor": "a form; test_check.py",
     ".ci/run": "has these tests in it",
     "tools/quick.sh": "has tests in it that need no program",
 }

@@ -54,6 +54,7 @@ class Bash(VerbCase):
         self.assertEqual(self.complete("apply", "-"), ["--drop-capabilities", "--dry-run", "--help", "-n"])
         self.assertEqual(self.complete("audit", "fix", "--fail"), [""])
         self.assertEqual(self.complete("audit", "--fail-on", "m"), ["middle"])
+        self.assertEqual(self.complete("audit", "--weight", ""), ["high", "low", "middle"])
 
     def test_words_of_the_snapshot(self) -> None:
         self.assertEqual(self.complete("user", "m"), ["mara"])

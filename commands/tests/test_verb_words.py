@@ -38,7 +38,7 @@ BASES: Dict[str, Tuple[str, str]] = {
     "ask": ("script", "facl-ask OPTIONS SNAP script"),
 }
 VALUES = {"exclude": "*.x", "split": "300", "readers": "root", "users": "names", "depth": "1", "umask": "077",
-          "list": "mask-cuts-entry", "accepted": "fine", "fail_on": "none"}
+          "list": "mask-cuts-entry", "accepted": "fine", "fail_on": "none", "weight": "low"}
 # Options that exclude each other; those of the first run, of the second one, and what is tried with other words.
 ONE, OTHER, APART = {"tsv", "program", "split"}, {"json", "acl5", "users", "list"}, {"each", "hosts", "timeout"}
 

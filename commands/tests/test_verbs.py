@@ -39,7 +39,7 @@ SAME: Tuple[Tuple[str, str], ...] = (
     ("audit", "facl-audit SNAP"), ("audit --list mask-cuts-entry --tsv /srv",
                                    "facl-audit --list mask-cuts-entry --tsv SNAP /srv"),
     ("audit --fail-on none --json", "facl-audit --fail-on none --json SNAP"),
-    ("audit --accepted fine", "facl-audit --accepted fine SNAP"),
+    ("audit --accepted fine", "facl-audit --accepted fine SNAP"), ("audit --weight low", "facl-audit --weight low SNAP"),
     ("audit fix mask-cuts-entry", "facl-audit --edits mask-cuts-entry SNAP"),
     ("check rules", "facl-check --quiet SNAP rules"), ("check broken --json", "facl-check --json SNAP broken"),
     ("check broken", "facl-check SNAP broken"), ("rules", "facl-check --write SNAP"),

@@ -109,11 +109,18 @@ def who_of(world: Audited) -> Tuple[List[str], Set[str]]:
     return words, {it for word in words for it in of_word.get(word, [word])}
 
 
+def spelled(world: Audited, word: str, kind: str) -> str:
+    """A word in one of its forms; `only` takes no everybody else."""
+    forms = {OTHERS: (OTHERS, ELSE, f"'{ELSE}'")} if kind != "only" else {}
+    return world.chance.choice(forms.get(word, (word, "group " + word[1:]) if word.startswith("@") else (word,)))
+
+
 def rule_at_random(world: Audited, rights: Rights) -> Rule:
     kind, right = world.chance.choice(("never", "only", "always")), world.chance.choice(RIGHTS)
     top = world.chance.choice(world.folders if world.chance.random() < 0.8 else world.files)
     words, users = who_of(world)
-    paths = world.below(top)
+    is_below = top in rights.folders and world.chance.random() < 0.4
+    paths = world.below(top)[is_below:]
     if kind == "only":
         users = set(world.numbers) - users
     found = {user: rights.of(user, right, paths, top) for user in users}
@@ -121,7 +128,8 @@ def rule_at_random(world: Audited, rights: Rights) -> Rule:
         asked_of = rights.asked(paths, right, top)
         found = {user: [it for it in asked_of if it not in set(its)] for user, its in found.items()}
     broken = {(user, len(its), tuple(its[:FIRST])) for user, its in found.items() if its}
-    return Rule(" ".join([kind, *words, right, top + "/"]), broken)
+    forms = [spelled(world, word, kind) for word in words]
+    return Rule(" ".join([kind, *forms, right, *["below"] * is_below, top + world.chance.choice(("", "/"))]), broken)
 
 
 def compare_rules(world: Audited, rights: Rights, number: int, *options: str) -> Tuple[int, int]:

@@ -3,12 +3,12 @@ from __future__ import annotations
 
 import os
 import signal
-from typing import List, Optional
+from typing import List, Optional, Sequence
 
 from .. import VERSION
 from ..base.messages import UNUSABLE, Command, Failure, Interrupted, named
 from .children import Children
-from .folder import NEW, DailyFolder
+from .folder import FOUND, NEW, DailyFolder
 from .text import Text, find_sendmail
 from .words import HELP, Words, address_of, read_words
 
@@ -24,9 +24,9 @@ class Asking:
         self.new_name = folder.new_name(text.day, self.names)
         self.place = os.fsdecode(os.path.join(folder.name, folder.work, NEW))
 
-    def ask(self, title: bytes, *words: str) -> int:
+    def ask(self, title: bytes, *words: str, passed: Sequence[int] = ()) -> int:
         """Runs a command, and adds what it printed where there is something to look at, with the name that the snapshot gets."""
-        done = self.children.run(words, [self.folder.lock_file])
+        done = self.children.run(words, [self.folder.lock_file, *passed])
         said = done.said.replace(self.folder.work + b"/" + NEW, self.new_name)
         if done.status not in ANSWERED:
             self.text.fail(title, done.status, said)
@@ -51,7 +51,10 @@ class Asking:
             before = os.fsdecode(os.path.join(self.folder.name, old))
             compared = self.ask(b"changes since %s (facl diff)" % old, "facl-diff", *given.judge, before, new)
         accepted = ["--accepted", given.accepted] if given.accepted else []
-        audited = self.ask(b"findings (facl audit)", "facl-audit", *given.judge, "--fail-on", given.weight, *accepted, new)
+        said = self.folder.open_found()
+        known = ["--known=/dev/fd/%d" % it for it in said] + ["--now-known", os.path.join(os.path.dirname(new), os.fsdecode(FOUND))]
+        audited = self.ask(b"findings (facl audit)", "facl-audit", *given.judge, "--weight", given.weight, "--fail-on", given.fail_on,
+                           *known, *accepted, new, passed=said)
         if given.rules:
             self.ask(b"rules that do not hold (facl check)", "facl-check", *given.judge, "--quiet", new, given.rules)
         is_usable = (compared if old else audited) in ANSWERED

@@ -9,7 +9,8 @@ may be killed between any two of them:
     3 the text was given                       the same: what changed is said again
     4 `made`, the next list, is beside `new`   the same; it has that name only when it is complete
     5 `new` has its name in DIR                `made` without `new`: makes it the list; nothing is said twice
-    6 `made` is the list                       an empty work folder: removes it
+    6 `made` is the list                       removes the work folder; findings that were said now are said again
+    6a the findings are in place               an empty work folder: removes it
     7 some older snapshots are removed         names in the list that are not there, or a part of a snapshot: removes these
     8 the list has only what is there          as 6
 """
@@ -32,6 +33,7 @@ from ..base.new_file import DIRECTORY, create, give_mode, is_there, make_directo
 from ..base.trusted import PRIVATE
 
 LOCK, MADE = b"lock.of-facl-daily", b"made.by-facl-daily"
+FOUND = b"found.by-facl-daily"  # What was said of findings; in the work folder what is said now.
 NEW, NEXT, BEGUN = b"new", b"made", b"begun"  # In the work folder.
 WORK = re.compile(rb"\.work\.[0-9A-Za-z]{10}")
 NAME = re.compile(rb"[0-9]{4,}-[0-9]{2}-[0-9]{2}(?:\.([0-9]{1,9}))?")
@@ -139,6 +141,14 @@ class DailyFolder:
         os.rename(NEW, name, src_dir_fd=self.inside, dst_dir_fd=self.descriptor)
         os.fsync(self.descriptor)
         self.put_list(self.inside)
+        if is_there(FOUND, self.inside):
+            os.rename(FOUND, FOUND, src_dir_fd=self.inside, dst_dir_fd=self.descriptor)
+
+    def open_found(self) -> List[int]:
+        """Opens what the last run said of findings; none where no file is there that the caller made, so that all is said."""
+        with contextlib.suppress(Failure):
+            return [trusted.open_mark(self.descriptor, self.name, FOUND)]
+        return []
 
     def write_next(self, names: List[bytes]) -> None:
         """Writes the next list beside the snapshot."""

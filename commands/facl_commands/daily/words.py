@@ -9,8 +9,8 @@ from ..base.messages import Failure
 from ..base.option_words import NO_OPTION, read_options
 
 USAGE = """\
-usage: facl-daily [--folder DIR] [--keep COUNT] [--rules FILE] [--accepted FILE] [--fail-on WEIGHT] [--mail ADDRESS]
-                  [--split COUNT] [--snapshot OPTIONS] [--acl5] FOLDER..
+usage: facl-daily [--folder DIR] [--keep COUNT] [--rules FILE] [--accepted FILE] [--weight WEIGHT] [--fail-on WEIGHT]
+                  [--mail ADDRESS] [--split COUNT] [--snapshot OPTIONS] [--acl5] FOLDER..
 """
 HELP = USAGE + """
 Takes a snapshot of the FOLDERs by facl-snapshot, as DIR/YYYY-MM-DD, and says what there is to look at: what differs from
@@ -22,7 +22,9 @@ prints nothing, so that cron sends no mail. Run it as root, once a day.
                     made.by-facl-daily of DIR names them. Whatever else is in DIR stays
   --rules FILE      the rules of facl-check; without it none are checked
   --accepted FILE   the findings that are accepted, for facl-audit
-  --fail-on WEIGHT  says all findings where one has this weight or a greater one: high, which is so without it, middle,
+  --weight WEIGHT   the least weight of the findings that are said: high, middle, which is so without it, or low. One that the
+                    last run said is a line: the file found.by-facl-daily of DIR has these
+  --fail-on WEIGHT  says the findings where one has this weight or a greater one: high, which is so without it, middle,
                     low, or none: no finding counts
   --mail ADDRESS    sends the text by sendmail in place of printing it, and a mail also where the command fails or is ended
                     by a signal
@@ -42,9 +44,9 @@ what changed was printed or mailed. What a run leaves that SIGKILL or a power fa
 The exit status is 0 where there is nothing to look at, 1 where there is, and 2 where the snapshot is not made, or
 something could not be asked or sent; that is said too. A signal gives 128 and its number.
 """
-OPTIONS = ("--folder", "--keep", "--rules", "--accepted", "--fail-on", "--mail", "--split", "--snapshot")
+OPTIONS = ("--folder", "--keep", "--rules", "--accepted", "--weight", "--fail-on", "--mail", "--split", "--snapshot")
 ACL5 = "--acl5"
-DEFAULTS = {"--folder": "/var/lib/facl", "--keep": "30", "--fail-on": "high"}
+DEFAULTS = {"--folder": "/var/lib/facl", "--keep": "30", "--weight": "middle", "--fail-on": "high"}
 WEIGHTS = ("high", "middle", "low", "none")
 ADDRESS = re.compile(r"[A-Za-z0-9@._+][A-Za-z0-9@._+-]*")
 HINT = "; facl daily --help prints the options"
@@ -53,9 +55,10 @@ HINT = "; facl daily --help prints the options"
 class Words(NamedTuple):
     folder: str
     keep: int
-    rules: str  # Empty without the option, as are the next four.
+    rules: str  # Empty without the option, as is the next one.
     accepted: str
-    weight: str
+    weight: str  # Of the findings that are said.
+    fail_on: str
     address: str
     options: List[str]  # Of facl-snapshot.
     folders: List[str]
@@ -79,6 +82,7 @@ def fault_of(last: "dict[str, str]", is_split: bool, folders: List[str]) -> str:
             (not folders, "a FOLDER is missing, as in: facl daily /srv/project"),
             (not last["--folder"], "--folder: takes a word"),
             (not re.fullmatch("[1-9][0-9]{0,8}", last["--keep"]), f"--keep {last['--keep']}: is not a number of snapshots"),
+            (last["--weight"] not in WEIGHTS[:-1], f"--weight {last['--weight']}: give high, middle or low"),
             (last["--fail-on"] not in WEIGHTS, f"--fail-on {last['--fail-on']}: give high, middle, low or none"),
             (is_split and not re.fullmatch("[1-9][0-9]{0,6}", last["--split"]),
              f"--split {last['--split']}: is not a number from 1 to 9999999"),
@@ -102,5 +106,5 @@ def read_words(words: List[str]) -> Words:
     if fault:
         raise Failure(os.fsencode(fault))
     options = [*last["--snapshot"].split(), *["--split", last["--split"]] * bool(values["--split"])]
-    return Words(whole(last["--folder"]), int(last["--keep"]), whole(last["--rules"]), whole(last["--accepted"]), last["--fail-on"],
-                 last["--mail"], options, folders, [ACL5] * bool(values[ACL5]))
+    return Words(whole(last["--folder"]), int(last["--keep"]), whole(last["--rules"]), whole(last["--accepted"]), last["--weight"],
+                 last["--fail-on"], last["--mail"], options, folders, [ACL5] * bool(values[ACL5]))

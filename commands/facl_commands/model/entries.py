@@ -17,7 +17,7 @@ LETTERS = (b"r", b"w", b"x")
 NOTHING = b"---"  # Of permissions, and of flags.
 MOST_KEPT = 1 << 16  # Records that were read: most snapshots have fewer, and some a million, for which there is no memory.
 Key = Tuple[bytes, bytes]  # The tag, and the id where it names one, or the name as the program prints it.
-OWNER_KEY, OWNING_GROUP_KEY, OTHER_KEY = (USER, b""), (GROUP, b""), (OTHER, b"")
+OWNER_KEY, OWNING_GROUP_KEY, OTHER_KEY, MASK_KEY = (USER, b""), (GROUP, b""), (OTHER, b""), (MASK, b"")
 
 
 class Entry(NamedTuple):

@@ -29,12 +29,12 @@ function findingBox({name, weight, meaning, count, files: found}) {
   return box;
 }
 
-// What is found of a file, with the line of a script that mends it.
+// What is found of a file, with the line of a script that mends it, or a comment that says what to decide.
 function findingsOf(file) {
   const found = findingsByPath.get(pathOf(file, Infinity)) ?? [];
   if (!found.length) return [];
   const rows = found.map(([{name, weight, meaning}, detail, edit]) => element("li", {}, weightOf(weight), " " + name + ": " + meaning + (detail ? " (" + detail + ")" : ""),
-    ...(edit ? [element("br"), element("span", {className: "reason", textContent: "for facl plan: " + edit})] : [])));
+    ...(edit ? [element("br"), element("span", {className: "reason", textContent: edit.startsWith("#") ? edit.slice(2) : "for facl plan: " + edit})] : [])));
   return [element("h3", {textContent: "Findings"}), element("ul", {className: "found"}, ...rows)];
 }
 

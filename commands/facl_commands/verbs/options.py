@@ -94,6 +94,8 @@ ALL: Tuple[VerbOption, ...] = (
     VerbOption(("--fail-on",), "the least weight that makes the exit status 1 (default: high)", "WEIGHT", WORD,
                (*WEIGHTS, "none"),
            command="--fail-on"),
+    VerbOption(("--weight",), "the least weight of the findings that are shown (default: middle)", "WEIGHT", WORD, WEIGHTS,
+               command="--weight"),
     VerbOption(("-e", "--edit"), "a line of edits, in the place of EDITS; it may come several times", "LINE",
                is_repeated=True),
     VerbOption(("--full",), "print each user and each file", command="--full"),

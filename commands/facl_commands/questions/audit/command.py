@@ -3,29 +3,34 @@ from __future__ import annotations
 
 import argparse
 import os
-from typing import Callable, List, Optional, Set
+from typing import Callable, FrozenSet, List, Set
 
-from ...base.messages import Command, Failure, parser_of
+from ...base.messages import Command, Failure, counted, parser_of
 from ...base.names import highest, parent_of, places_below, read_path
 from ...base.new_file import NewFile
 from ...base.programs import find_program
 from ...base.tables import add_output, paged, write_json, write_table
+from ...base.trusted import read_given
 from ...model import choice, overview, sources, split_tree
 from ...model.entries import NamesOfIds
 from ...model.everybody import World, files_of, world_of
 from ...model.file_columns import FileTree
 from ...model.sources import Source
-from .findings import KINDS, WEIGHTS, Findings, FoundFiles, edits_of
+from .findings import KINDS, WEIGHTS, Findings, FoundFiles, Mend, edits_of
 from .lists import Audited, default_not_inherited, of_records
+from .removals import without_effect, without_gains
 from .report import SCHEMA, AuditReport, json_of, lines_of, table_of, table_of_files
-from .rights import of_everybody, of_writers, removable
+from .rights import of_everybody, of_writers
+from .safe import SpecialFolders
 
 NONE = "none"
+A_LINK = b"a hard link, by which folders share a file"
+WHICH_NAME = b"which names shall stay; all are one file with one owner, group and ACL"
 HELP = """\
 Looks for what is wrong with the access lists of a snapshot, or of FOLDERs in it: findings by weight, each with the
-number of files, the first of them, and a line for facl-plan that mends it. Rights are those along paths, as the program
-answers: `everybody else` is a user whom no list names and who is in no group of the tree, as one whom the snapshot does
-not have.
+number of files, the first of them, what may be meant, and a line for facl-plan that mends it, or what is to be decided
+where none is safe. Those of weight low are shown with --weight low. Rights are those along paths, as the program answers:
+`everybody else` is a user whom no list names and who is in no group of the tree, as one whom the snapshot does not have.
 
 It changes nothing. A finding that is as it should be is accepted by a line of the FILE of --accepted,
 
@@ -61,6 +66,10 @@ def parse(words: List[str]) -> argparse.Namespace:
                         help="also write a page to look at, as facl-report does, with the findings, to a new file")
     parser.add_argument("--fail-on", metavar="WEIGHT", choices=[*WEIGHTS, NONE], default=WEIGHTS[0],
                         help="high (as without it), middle, low or none: see the exit status")
+    parser.add_argument("--weight", metavar="WEIGHT", choices=WEIGHTS, default=WEIGHTS[-2],
+                        help="the least weight of the findings that are printed: high, middle (as without it) or low")
+    parser.add_argument("--known", metavar="FILE", help="what --now-known of an earlier run wrote: of findings in it the number alone")
+    parser.add_argument("--now-known", metavar="FILE", help="write what is printed of findings to a new file, for --known")
     add_output(parser)
     sources.add_source(parser, words)
     choice.add_choice(parser, default="those that the snapshot was made of")
@@ -88,15 +97,16 @@ def across_folders(sets: List[List[bytes]], paths: Set[bytes], name_of: Callable
     for names in sets:
         folders = [first_of.get(parent_of(name), parent_of(name)) for name in names]
         its = [name for name, folder in zip(names, folders) if folder != folders[0] and name in paths]
-        found.add(its, [(b"is one file with " + name_of(names[0]), b"rm")] * len(its))
+        found.add(its, [Mend(b"is one file with " + name_of(names[0]), b"", A_LINK, WHICH_NAME)] * len(its))
     return found
 
 
 def findings_of(audited: Audited, links: List[List[bytes]]) -> Findings:
     tree = audited.tree
     plain = {path for path, kind in zip(tree.paths, tree.kinds) if not tree.files[kind].is_directory} if links else set()
-    return {**of_everybody(audited), **of_writers(audited), **of_records(audited, removable(audited)),
-            "default-not-inherited": default_not_inherited(audited),
+    mends = without_gains(audited, of_records(audited))
+    return {**of_everybody(audited), **of_writers(audited), **{name: audited.found(its) for name, its in mends.items()},
+            "entry-without-effect": without_effect(audited), "default-not-inherited": default_not_inherited(audited),
             "links-across-folders": across_folders(links, plain, audited.world.name_of)}
 
 
@@ -107,7 +117,7 @@ def part_of(tree: FileTree, folders: List[bytes], first: int) -> FileTree:
 
 
 def report_of(given: argparse.Namespace, source: Source, program: str) -> AuditReport:
-    report, once = AuditReport(given, source), split_tree.Once()
+    report, once, special = AuditReport(given, source), split_tree.Once(), SpecialFolders()
     parts = report.parts or [source.folder]
     report.folders = folders_in_parts(report) if report.parts else []
     links = split_tree.links_in(parts)
@@ -115,6 +125,7 @@ def report_of(given: argparse.Namespace, source: Source, program: str) -> AuditR
         with world_of(program, source._replace(folder=folder)) as world:
             report.folders = report.folders or folders_in(world, given.folders)
             whole = files_of(world)
+            special.add(whole, [*map(read_path, report.meta.folders), *sources.find_tops(world.session, folder)])
             tree = part_of(whole, report.folders, len(whole.paths) - len(once.of_part(whole.paths)) if report.parts else 0)
             kinds = {kind: tree.files[kind] for kind in dict.fromkeys(tree.kinds)}
             ids = NamesOfIds(world.texts.passwd, world.texts.group)
@@ -123,17 +134,22 @@ def report_of(given: argparse.Namespace, source: Source, program: str) -> AuditR
             report.files += len(tree.paths)
             report.recorded.update({line.path for line in report.lines}.intersection(whole.paths))
             report.is_whole = world.is_whole
+    report.findings = special.checked(report.findings)
     report.accept()
     return report
 
 
 def write(command: Command, given: argparse.Namespace, report: AuditReport) -> None:
-    only: Optional[str] = given.list or given.edits
     if given.json:
-        write_json(command, given, SCHEMA, json_of(report, only))
+        write_json(command, given, SCHEMA, json_of(report))
     elif given.edits:
-        for line in edits_of(report.findings[given.edits], report.is_whole):
+        found = report.findings[given.edits]
+        for line in edits_of(found, report.is_whole):
             command.write(line + b"\n")
+        rest = sum(not mend.edit for mend in found.mends)
+        if rest:
+            command.say(b"%s no line; facl audit --list %s says what to decide" % (
+                counted(rest, "file has", "files have"), given.edits.encode()))
     elif given.list:
         write_table(command, given, table_of_files(report.findings[given.list], report.is_whole))
     elif given.tsv:
@@ -143,9 +159,18 @@ def write(command: Command, given: argparse.Namespace, report: AuditReport) -> N
             command.write(line + b"\n")
 
 
+def known_before(command: Command, given: argparse.Namespace) -> FrozenSet[bytes]:
+    """The lines of the file of --known; none where it cannot be read or believed, so that all is said."""
+    try:
+        return frozenset(read_given(os.fsencode(given.known)).split(b"\n")) if given.known is not None else frozenset()
+    except Failure as failure:
+        command.say(failure.text + b"; all findings are said")
+        return frozenset()
+
+
 def body(command: Command, words: List[str]) -> int:
     given = parse(words)
-    target = NewFile(os.fsencode(given.page)) if given.page is not None else None
+    target, now_known = (NewFile(os.fsencode(name)) if name is not None else None for name in (given.page, given.now_known))
     with sources.opened(given) as source:
         split_tree.check_all(source.folder)
         overview.say_notices(command, source, given.acl5)
@@ -158,6 +183,7 @@ def body(command: Command, words: List[str]) -> int:
             from .page import page_with  # Few runs need it.
 
             page = page_with(report, source, program, given)
+    report.known = known_before(command, given)
     for text in report.unused.values():
         command.say(text)
     with paged(command, not given.no_pager):
@@ -166,4 +192,7 @@ def body(command: Command, words: List[str]) -> int:
         target.write(page)
         command.say(b"wrote " + target.name)
     failing = [] if given.fail_on == NONE else WEIGHTS[: WEIGHTS.index(given.fail_on) + 1]
-    return int(any(kind.weight in failing for kind in report.kinds()))
+    has_failed = any(kind.weight in failing for kind in report.kinds())
+    if now_known is not None:
+        now_known.write(report.said(has_failed))
+    return int(has_failed)

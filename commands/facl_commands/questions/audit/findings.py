@@ -1,5 +1,5 @@
-"""The findings of facl-audit, a record each; a file with what is found of it, and the line that mends it; and findings
-that are accepted, each with a reason: the lines of the file of --accepted.
+"""The findings of facl-audit, a record each; a file with what is found of it, and the line that mends it or what a person has to
+decide; and findings that are accepted, each with a reason: the lines of the file of --accepted.
 
 That file may be one that the caller cannot read, as by sudo: messages have no word of a line but the name of a finding.
 """
@@ -7,7 +7,7 @@ from __future__ import annotations
 
 import itertools
 import os
-from typing import Dict, Iterable, Iterator, List, NamedTuple, Optional, Set, Tuple
+from typing import Dict, Iterable, Iterator, List, NamedTuple, Optional, Set
 
 from ...base.messages import Failure
 from ...base.names import file_name, file_word, is_below, read_path
@@ -20,6 +20,7 @@ WEIGHTS = (HIGH, MIDDLE, LOW)
 # A comment of a script. In a shell, chmod and setfacl follow the links that somebody puts in the place of a file.
 FOR_PLAN = b"# for facl plan, not for a shell"
 FIELDS = 3  # Of a line that accepts: the finding, the path, and the first word of the reason.
+MAY_BE_MEANT, DECIDE = b"may be meant: ", b"# decide: "
 FORM = b"a line is FINDING PATH REASON; words with spaces are in single quotes"
 
 
@@ -54,23 +55,45 @@ OF_EVERYBODY = {"writable-by-everybody", "readable-by-everybody", "execute-for-e
 BY_NAME: Dict[str, KindOfFinding] = {kind.name: kind for kind in KINDS}
 
 
-Mend = Tuple[bytes, bytes]  # What is found of a file, in words, which may be none, and what mends it.
+class Mend(NamedTuple):
+    """What is found of a file, and what mends it."""
+
+    detail: bytes  # In words; may be empty.
+    edit: bytes  # The line of a script that mends it, without the file; empty where no line is safe.
+    meant: bytes = b""  # What the file may be, so that nothing is wrong with it; empty where that is not known.
+    decide: bytes = b""  # What a person has to look at in the place of a line.
+    pattern: bytes = b""  # The entries that it is about, of a finding that counts by these.
+    giver: Optional[bytes] = None  # The directory whose default ACL gives them to new files.
+
+    def for_a_person(self, decide: bytes) -> Mend:
+        """Without the line."""
+        return self._replace(edit=b"", decide=decide)
 
 
 class FoundFile(NamedTuple):
     """A file of a finding."""
 
     path: bytes
-    detail: bytes  # What is found of it, in words; may be empty.
-    edit: bytes  # The line of a script that mends it, without the file.
+    mend: Mend
 
     def line(self, is_whole: bool) -> bytes:
-        """The whole line; of a snapshot that is whole, paths start at the root of the file system."""
-        return self.edit + b" " + file_word(self.path, is_whole)
+        """The whole line, which may be none; of a snapshot that is whole, paths start at the root of the file system."""
+        return self.mend.edit + b" " + file_word(self.path, is_whole) if self.mend.edit else b""
+
+    def what(self) -> bytes:
+        """What is found of it, as a person reads it."""
+        return b"; ".join(filter(None, [self.mend.detail, self.meant()]))
+
+    def meant(self) -> bytes:
+        return MAY_BE_MEANT + self.mend.meant if self.mend.meant else b""
+
+    def action(self, is_whole: bool) -> bytes:
+        """The line; in its place what is to be decided, which is a comment of a script."""
+        return self.line(is_whole) or DECIDE + self.mend.decide
 
     def fields(self, is_whole: bool) -> List[bytes]:
         """The file as a person reads it, what is found of it, and the line."""
-        return [file_name(self.path, is_whole), self.detail, self.line(is_whole)]
+        return [file_name(self.path, is_whole), self.what(), self.action(is_whole)]
 
 
 class FoundFiles:
@@ -89,7 +112,7 @@ class FoundFiles:
 
     def first(self, number: Optional[int] = None) -> Iterator[FoundFile]:
         """As many of them; all without a number."""
-        return (FoundFile(path, *mend) for path, mend in itertools.islice(zip(self.paths, self.mends), number))
+        return (FoundFile(path, mend) for path, mend in itertools.islice(zip(self.paths, self.mends), number))
 
     def without(self, paths: Set[bytes]) -> FoundFiles:
         """The others."""
@@ -105,8 +128,9 @@ def edits_of(found: FoundFiles, is_whole: bool) -> Iterator[bytes]:
     """The lines of a script that mend all of these, below one that says so: files with one edit are in one line where it has
     room."""
     files: Dict[bytes, List[bytes]] = {}
-    for it in found.first():
-        files.setdefault(it.edit, []).append(file_word(it.path, is_whole))
+    for path, mend in zip(found.paths, found.mends):
+        if mend.edit:
+            files.setdefault(mend.edit, []).append(file_word(path, is_whole))
     if files:
         yield FOR_PLAN
     for edit, words in files.items():

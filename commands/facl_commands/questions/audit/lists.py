@@ -12,16 +12,17 @@ from typing import Callable, Dict, List, NamedTuple, Optional, Tuple
 from ...base import accounts
 from ...base.names import parent_of
 from ...model.entries import (
-    GROUP, NOTHING, OTHER, OWNING_GROUP_KEY, USER, Entry, NamesOfIds, ReadRecord, cut_letters, digits, flag_digit, named,
-    read_record,
+    GROUP, MASK_KEY, NOTHING, OTHER, OWNER_KEY, OWNING_GROUP_KEY, USER, Entry, NamesOfIds, ReadRecord, cut_letters, digits,
+    flag_digit, named, read_record,
 )
 from ...model.everybody import World
 from ...model.file_columns import FileTree
 from ...model.records import File
-from .findings import Findings, FoundFiles, Mend
+from .findings import FoundFiles, Mend
 
 SET_USER, SET_GROUP = 4, 2  # In the first digit of a mode.
 SUPERUSER = b"%d" % accounts.SUPERUSER
+A_PROGRAM = b"a program that others run so"
 OfFile = Optional[Mend]
 Look = Callable[[File, ReadRecord, NamesOfIds], OfFile]
 
@@ -47,7 +48,8 @@ def without_flag(flag: int, file: File, record: ReadRecord, _ids: NamesOfIds) ->
     flags = flag_digit(record.flags)
     if file.is_directory or not flags & flag:
         return None
-    return b"", b"chmod " + digits(record, flags & ~flag)
+    is_run = any(it.grants(b"x") for it in record.access if it.key not in (OWNER_KEY, MASK_KEY))
+    return Mend(b"", b"chmod " + digits(record, flags & ~flag), A_PROGRAM * is_run)
 
 
 def named_entries(record: ReadRecord) -> List[Tuple[Entry, bytes]]:
@@ -65,7 +67,7 @@ def mask_cuts_entry(_file: File, record: ReadRecord, ids: NamesOfIds) -> OfFile:
     text = b", ".join(b"default " * (begin != b"") + b"%s: %s is %s" % (
         ids.shown(it.key), it.permissions, it.effective) for it, begin in cut)
     words = b",".join(ids.entry(it._replace(permissions=it.effective), begin) for it, begin in cut)
-    return text, b"setfacl -n -m " + words
+    return Mend(text, b"setfacl -n -m " + words)
 
 
 def empty_mask(_file: File, record: ReadRecord, ids: NamesOfIds) -> OfFile:
@@ -77,7 +79,7 @@ def empty_mask(_file: File, record: ReadRecord, ids: NamesOfIds) -> OfFile:
     text = b", ".join(b"%s: %s is %s" % (ids.shown(it.key), it.permissions, done) for it in record.access
                       if it.is_named() and it.permissions != done)
     words = [ids.entry(it._replace(permissions=NOTHING)) for it in record.access if it.is_named() or it.key == OWNING_GROUP_KEY]
-    return text, b"setfacl -n -m " + b",".join([*words, b"m::" + done])
+    return Mend(text, b"setfacl -n -m " + b",".join([*words, b"m::" + done]))
 
 
 def owner_without_row(_file: File, record: ReadRecord, ids: NamesOfIds) -> OfFile:
@@ -87,8 +89,8 @@ def owner_without_row(_file: File, record: ReadRecord, ids: NamesOfIds) -> OfFil
         return None
     text = b", ".join([b"user " + record.owner] * lacks_user + [b"group " + record.group] * lacks_group)
     if not lacks_user:
-        return text, b"chgrp " + SUPERUSER
-    return text, b"chown " + SUPERUSER + (b":" + SUPERUSER) * lacks_group
+        return Mend(text, b"chgrp " + SUPERUSER)
+    return Mend(text, b"chown " + SUPERUSER + (b":" + SUPERUSER) * lacks_group)
 
 
 def entry_without_row(_file: File, record: ReadRecord, ids: NamesOfIds) -> OfFile:
@@ -96,7 +98,7 @@ def entry_without_row(_file: File, record: ReadRecord, ids: NamesOfIds) -> OfFil
     if not lacking:
         return None
     text = b", ".join(b"default " * (begin != b"") + ids.shown(key) for key, begin in lacking)
-    return text, b"setfacl -n -x " + b",".join(begin + ids.word(key) for key, begin in lacking)
+    return Mend(text, b"setfacl -n -x " + b",".join(begin + ids.word(key) for key, begin in lacking))
 
 
 def default_differs(_file: File, record: ReadRecord, ids: NamesOfIds) -> OfFile:
@@ -109,7 +111,7 @@ def default_differs(_file: File, record: ReadRecord, ids: NamesOfIds) -> OfFile:
                       ((b"new files get no entry of ", lacking), (b"new files alone get one of ", more)) if keys)
     words = [b"-m " + b",".join(ids.entry(access[key], b"d:") for key in lacking)] * bool(lacking)
     words += [b"-x " + b",".join(b"d:" + ids.word(key) for key in more)] * bool(more)
-    return text, b"setfacl -n " + b" ".join(words)
+    return Mend(text, b"setfacl -n " + b" ".join(words))
 
 
 LOOKS: Dict[str, Look] = {
@@ -119,16 +121,15 @@ LOOKS: Dict[str, Look] = {
 }
 
 
-def of_records(audited: Audited, removable: Dict[bytes, Mend]) -> Findings:
-    """What is found of files by their records, each of which is looked at once."""
-    found: Dict[str, Dict[int, Mend]] = {name: {} for name in (*LOOKS, "entry-without-effect")}
+def of_records(audited: Audited) -> Dict[str, Dict[int, Mend]]:
+    """What is found of kinds of files by their records, each of which is looked at once."""
+    found: Dict[str, Dict[int, Mend]] = {name: {} for name in LOOKS}
     for kind, file in audited.kinds.items():
-        its = {name: look(file, read_record(file.body), audited.ids) for name, look in LOOKS.items()}
-        its["entry-without-effect"] = removable.get(file.body)
-        for name, mend in its.items():
+        for name, look in LOOKS.items():
+            mend = look(file, read_record(file.body), audited.ids)
             if mend is not None:
                 found[name][kind] = mend
-    return {name: audited.found(mends) for name, mends in found.items()}
+    return found
 
 
 def default_not_inherited(audited: Audited) -> FoundFiles:
@@ -146,7 +147,7 @@ def default_not_inherited(audited: Audited) -> FoundFiles:
                 keys = b", ".join(ids.shown(it.key) for it in known[pair] if it.is_named())
                 text = b"lacks %s of %s" % (keys or b"the default ACL", audited.world.name_of(parent_of(path)))
                 words = b",".join(ids.entry(it, b"d:") for it in known[pair])
-                found.add([path], [(text, b"setfacl -n -m " + words)])
+                found.add([path], [Mend(text, b"setfacl -n -m " + words)])
     return found
 
 

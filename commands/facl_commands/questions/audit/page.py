@@ -21,7 +21,7 @@ MOST = 1_000  # Files of a finding that the page has.
 
 def fields_of(kind: KindOfFinding, found: FoundFiles, is_whole: bool) -> Dict[str, object]:
     """A finding as the page has it, where each path has a slash at its start."""
-    rows = [(live_name(it.path), it.detail, it.line(is_whole)) for it in found.first(MOST)]
+    rows = [(live_name(it.path), it.what(), it.action(is_whole)) for it in found.first(MOST)]
     files = [[shown(text).decode() for text in row] for row in rows]
     return {"name": kind.name, "weight": kind.weight, "meaning": kind.meaning, "count": len(found), "files": files}
 
@@ -31,4 +31,4 @@ def page_with(found: AuditReport, source: Source, program: str, given: argparse.
     with Session(program, snapshot.folder) as session:
         listing = list_files(sources.list_below(session, sources.find_tops(session, snapshot.folder)))
     data = data_of(program, snapshot._replace(folder=source.shown), marks_of(snapshot.folder), [listing], [], given)
-    return page_of({**data, "findings": [fields_of(kind, found.findings[kind.name], found.is_whole) for kind in found.kinds()]})
+    return page_of({**data, "findings": [fields_of(kind, found.findings[kind.name], found.is_whole) for kind in found.shown()]})

@@ -3,7 +3,8 @@ from __future__ import annotations
 
 import argparse
 import os
-from typing import Dict, Iterator, List, Optional, Set
+from collections import Counter
+from typing import Dict, FrozenSet, Iterator, List, Set
 
 from ...base.messages import counted
 from ...base.names import at_or_below, file_name, is_at_or_below, json_text, shell_word, shown
@@ -15,12 +16,13 @@ from ...model.everybody import beside
 from ...model.meta import meta_of, named
 from ...model.sources import Source
 from .findings import (
-    HIGH, KINDS, LOW, MIDDLE, OF_EVERYBODY, WEIGHTS, Accepted, Findings, FoundFiles, KindOfFinding, read_accepted, sort_out,
-    why_unused,
+    HIGH, KINDS, LOW, MAY_BE_MEANT, MIDDLE, OF_EVERYBODY, WEIGHTS, Accepted, Findings, FoundFiles, KindOfFinding, read_accepted,
+    sort_out, why_unused,
 )
+from .groups import PatternGroup, groups_of, line_of, not_known
 
 SCHEMA = "facl-audit/1"
-FIRST = 3  # Names of a finding.
+FIRST, GROUPS = 3, 10  # Names and groups of a finding.
 INDENT = 8
 NAME_WIDTH = max(len(kind.name) for kind in KINDS)
 
@@ -39,6 +41,7 @@ class AuditReport:
         self.recorded: Set[bytes] = set()  # The paths of lines that are in the snapshot.
         self.unused: Dict[Accepted, bytes] = {}  # The lines that accept nothing, with what is said of them.
         self.is_whole = False  # Whether paths start at the root of the file system.
+        self.known: FrozenSet[bytes] = frozenset()  # What an earlier run said.
 
     def accept(self) -> None:
         """Takes out what lines accept. A line that accepts nothing is said where it is about what is audited, or its path is
@@ -54,24 +57,77 @@ class AuditReport:
     def name_of(self, path: bytes) -> bytes:
         return file_name(path, self.is_whole)
 
+    def json_name(self, path: bytes) -> str:
+        return json_text(self.name_of(path))
+
     def kinds(self) -> List[KindOfFinding]:
         """Those of which something is found, by weight."""
         return [kind for weight in WEIGHTS for kind in KINDS if kind.weight == weight and self.findings.get(kind.name)]
 
+    def shown(self) -> List[KindOfFinding]:
+        """Those of the weight of --weight and above; one that is asked for by its name in any case."""
+        asked, weights = self.given.list or self.given.edits, WEIGHTS[: WEIGHTS.index(self.given.weight) + 1]
+        return [kind for kind in self.kinds() if (kind.weight in weights if asked is None else kind.name == asked)]
 
-def lines_of_kind(kind: KindOfFinding, found: FoundFiles, is_whole: bool, paint: Paint) -> Iterator[bytes]:
-    """A finding: its number of files, what it is, the first names and the line that mends the first one."""
+    def hidden(self) -> List[KindOfFinding]:
+        return [kind for kind in self.kinds() if kind not in self.shown()]
+
+    def files_of(self, kinds: List[KindOfFinding]) -> int:
+        """The number of different files of some findings."""
+        return len({path for kind in kinds for path in self.findings[kind.name].paths})
+
+    def said(self, is_all: bool) -> bytes:
+        """What a later run reads to know what was said: all that is shown, or what was known before and is found again."""
+        lines = (line_of(kind.name, *it) for kind in self.shown() for found in [self.findings[kind.name]]
+                 for it in zip(found.paths, found.mends))
+        return b"".join(line + b"\n" for line in lines if is_all or line in self.known)
+
+
+def lines_of_groups(groups: List[PatternGroup], is_whole: bool) -> Iterator[bytes]:
+    """The first groups of a finding that counts by these, a line each."""
+    for it in groups[:GROUPS]:
+        yield fitting_line(b"%s, %s: %s, first: %s" % (it.pattern, it.where(file_name(it.folder, is_whole)), counted(
+            len(it.files), "file"), file_name(it.files.paths[0], is_whole)), INDENT)
+    if len(groups) > GROUPS:
+        yield fitting_line(b"and %d more of these; --json has all" % (len(groups) - GROUPS), INDENT)
+
+
+def lines_of_kind(report: AuditReport, kind: KindOfFinding, paint: Paint) -> Iterator[bytes]:
+    """A finding: its number of files, what it is, the first names and the line that mends the first one; of what an earlier run
+    said the number alone."""
     painter = {HIGH: paint.red, MIDDLE: paint.yellow, LOW: paint.dim}[kind.weight]
-    head = "%-7s %-*s  " % (kind.weight, NAME_WIDTH, kind.name)
-    yield painter(head.encode()) + paint.bold(counted(len(found), "file"))
+    head = painter(("%-7s %-*s  " % (kind.weight, NAME_WIDTH, kind.name)).encode())
+    of_all, is_whole = report.findings[kind.name], report.is_whole
+    found = not_known(kind.name, of_all, report.known)
+    if not len(found):
+        yield head + counted(len(of_all), "file") + b", as in the last run"
+        return
+    yield head + paint.bold(counted(len(found), "file") if len(found) == len(of_all) else b"%s, %d in all" % (
+        counted(len(found), "more file"), len(of_all)))
     yield fitting_line(kind.meaning.encode(), INDENT)
+    groups = groups_of(found)
+    yield from lines_of_groups(groups, is_whole) if groups else lines_of_names(found, is_whole)
+    yield from lines_of_action(groups[0].files if groups else found, is_whole)
+
+
+def lines_of_names(found: FoundFiles, is_whole: bool) -> Iterator[bytes]:
+    """The first files of a finding."""
     first = next(found.first())
-    detail = b" (" + first.detail + b")" if first.detail else b""
+    detail = b" (" + first.mend.detail + b")" if first.mend.detail else b""
     yield fitting_line(b"first: " + file_name(first.path, is_whole) + detail, INDENT)
     if len(found) > 1:
         names = b", ".join(file_name(path, is_whole) for path in found.paths[1 : FIRST + 1])
         yield fitting_line(b"then:  " + names + b", .." * (len(found) > FIRST + 1), INDENT)
-    yield b" " * INDENT + b"for facl plan: " + shown(first.line(is_whole))  # Whole, to be copied.
+
+
+def lines_of_action(found: FoundFiles, is_whole: bool) -> Iterator[bytes]:
+    """What may be meant, and the line that mends the first file, or what is to be decided of it."""
+    first = next(found.first())
+    for text, count in Counter(mend.meant for mend in found.mends if mend.meant).items():
+        of_all = b" (%d of %d files)" % (count, len(found)) if count < len(found) else b""
+        yield fitting_line(MAY_BE_MEANT + text + of_all, INDENT)
+    line = first.line(is_whole)  # Whole, to be copied.
+    yield b" " * INDENT + b"for facl plan: " + shown(line) if line else fitting_line(first.action(is_whole)[2:], INDENT)
 
 
 def summary(report: AuditReport) -> bytes:
@@ -86,13 +142,25 @@ def lines_of(report: AuditReport) -> Iterator[bytes]:
     head = b"%s: %s at or below %s" % (named(report.source.shown, report.meta), counted(report.files, "file"), folders)
     yield fitting_line(head)
     paint = Paint()
-    for kind in report.kinds():
-        yield from lines_of_kind(kind, report.findings[kind.name], report.is_whole, paint)
-    if any(kind.name in OF_EVERYBODY for kind in report.kinds()):
+    for kind in report.shown():
+        yield from lines_of_kind(report, kind, paint)
+    if any(kind.name in OF_EVERYBODY for kind in report.shown()):
         yield from map(fitting_line, beside(report.meta))
     yield summary(report)
-    if report.kinds():
-        yield from lines_again(report, report.kinds()[0].name.encode())
+    yield from not_shown(report)
+    if report.shown():
+        yield from lines_again(report, report.shown()[0].name.encode())
+
+
+def not_shown(report: AuditReport) -> Iterator[bytes]:
+    """The line on findings of less weight than is shown."""
+    hidden = report.hidden()
+    if hidden:
+        number, weights = report.files_of(hidden), Counter(kind.weight for kind in hidden)
+        kinds = b" and ".join(b"%d %s" % (count, weight.encode()) for weight, count in weights.items())
+        yield b"%s in %s %s not shown; --weight %s shows %s" % (
+            counted(number, "file"), kinds, b"finding" if len(hidden) == 1 else b"findings", hidden[-1].weight.encode(),
+            b"it" if number == 1 else b"them")
 
 
 def lines_again(report: AuditReport, name: bytes) -> Iterator[bytes]:
@@ -126,10 +194,17 @@ def written(words: List[str]) -> bytes:
     return shown(b" ".join(shell_word(os.fsencode(word)) for word in words))
 
 
+def rows_of_kind(report: AuditReport, kind: KindOfFinding) -> Iterator[List[bytes]]:
+    """A row for a finding, or for each of its groups."""
+    found = report.findings[kind.name]
+    groups = [(it.files, it.pattern + b", " + it.where(report.name_of(it.folder))) for it in groups_of(found)]
+    for files, what in groups or [(found, b"")]:
+        path, of_first, action = next(files.first()).fields(report.is_whole)
+        yield [kind.weight.encode(), kind.name.encode(), b"%d" % len(files), path, what or of_first, action]
+
+
 def table_of(report: AuditReport) -> Table:
-    """A row for each finding."""
-    rows = [[kind.weight.encode(), kind.name.encode(), b"%d" % len(found), *it.fields(report.is_whole)]
-            for kind in report.kinds() for found in [report.findings[kind.name]] for it in found.first(1)]
+    rows = [row for kind in report.shown() for row in rows_of_kind(report, kind)]
     columns = [Column("WEIGHT"), Column("FINDING"), Column("FILES", True), Column("FIRST"), Column("WHAT"),
                Column("FOR FACL PLAN")]
     return Table(columns, rows)
@@ -141,21 +216,27 @@ def table_of_files(found: FoundFiles, is_whole: bool) -> Table:
     return Table([Column("FILE"), Column("WHAT"), Column("FOR FACL PLAN")], rows)
 
 
-def json_of_kind(kind: KindOfFinding, found: FoundFiles, has_all: bool, is_whole: bool) -> Dict[str, object]:
-    texts = (it.fields(is_whole) for it in found.first(None if has_all else FIRST))
-    files = [dict(zip(("path", "what", "edit"), map(json_text, its))) for its in texts]
-    return {"finding": kind.name, "weight": kind.weight, "meaning": kind.meaning, "count": len(found), "files": files}
+def json_of_kind(report: AuditReport, kind: KindOfFinding) -> Dict[str, object]:
+    """A finding with its first files; with all of them where only that is asked for."""
+    found, has_all = report.findings[kind.name], report.given.list is not None or report.given.edits is not None
+    files = [{"path": report.json_name(it.path), "what": json_text(it.mend.detail), "edit": json_text(it.line(report.is_whole)),
+              "may_be_meant": json_text(it.mend.meant), "decide": json_text(it.mend.decide)}
+             for it in found.first(None if has_all else FIRST)]
+    groups = [{"folder": report.json_name(it.folder), "by_default_acl": it.is_given, "pattern": json_text(it.pattern),
+               "count": len(it.files), "path": report.json_name(it.files.paths[0])} for it in groups_of(found)]
+    return {"finding": kind.name, "weight": kind.weight, "meaning": kind.meaning, "count": len(found), "files": files, "groups": groups}
 
 
-def json_of(report: AuditReport, only: Optional[str]) -> Dict[str, object]:
-    """The report, with all files of one finding where only that is asked for."""
-    kinds = [kind for kind in report.kinds() if only in (None, kind.name)]
+def json_of(report: AuditReport) -> Dict[str, object]:
+    hidden = report.hidden() if report.given.list is None else []
     return {
         **head_of(report.given, report.source.shown, report.meta),
-        "folders": [json_text(report.name_of(path)) for path in report.folders],
+        "folders": list(map(report.json_name, report.folders)),
         "count": report.files,
-        "findings": [json_of_kind(kind, report.findings[kind.name], only is not None, report.is_whole) for kind in kinds],
+        "weight": report.given.weight,
+        "findings": [json_of_kind(report, kind) for kind in report.shown()],
+        "not_shown": {"findings": [kind.name for kind in hidden], "count": report.files_of(hidden)},
         "accepted": report.accepted,
         "unused": [{"line": it.number, "finding": it.kind,
-                    "path": json_text(report.name_of(it.path)) if it.path in report.recorded else None} for it in report.unused],
+                    "path": report.json_name(it.path) if it.path in report.recorded else None} for it in report.unused],
     }

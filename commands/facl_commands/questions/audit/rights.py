@@ -1,21 +1,18 @@
-"""Findings of facl-audit that are answers of the program: what everybody else may do, who of the users may write, and
-entries without effect. Many files have few different records, so records are asked about, and not files."""
+"""Findings of facl-audit that are answers of the program: what everybody else may do, and who of the users may write. Many files
+have few different records, so records are asked about, and not files."""
 from __future__ import annotations
 
-from typing import Dict, Iterable, Iterator, List, NamedTuple, Optional, Tuple
+from typing import Dict, Iterator, List, NamedTuple, Optional, Tuple
 
-from ...base.messages import Failure
 from ...base.names import parent_of, path_word, way_to, write_user
 from ...model.choice import is_chosen
-from ...model.entries import GROUP, OTHER, USER, Key, digits, flag_digit, named, read_record, without
+from ...model.entries import GROUP, OTHER, USER, Entry, digits, flag_digit, named, read_record, without
 from ...model.file_columns import AlikeFiles, AlikeKey
 from ...model.label_answers import PeopleTexts, ask_vectors
 from ...model.people import People, groups_by_user, users_by_group
 from ...model.records import File
 from ...model.rules_of_lists import inside, is_sticky, writing
 from ...program.protocol import FILE_HEAD, LIST, WHO
-from ...program.session import LINES_ROOM, parts_of, session_over
-from ...program.tools import path_in
 from .findings import OF_EVERYBODY, Findings, FoundFiles, Mend
 from .lists import Audited
 
@@ -23,10 +20,10 @@ READ, WRITE, EXECUTE = b"r", b"w", b"x"
 AT_ONCE = 500  # Questions.
 
 
-def without_entries(audited: Audited, keys: Iterable[Key]) -> Mend:
-    """Entries that can go, as a person reads them, and the edit that removes them."""
-    known = list(keys)
-    return b", ".join(map(audited.ids.shown, known)), b"setfacl -n -x " + b",".join(map(audited.ids.word, known))
+def without_writing(audited: Audited, entries: List[Entry]) -> Mend:
+    """Entries that lose w alone, as a person reads them, and the edit that does it: without its entry a user may have more."""
+    words = (audited.ids.entry(it._replace(permissions=without(it.permissions, WRITE))) for it in entries)
+    return Mend(b", ".join(audited.ids.shown(it.key) for it in entries), b"setfacl -n -m " + b",".join(words))
 
 
 # --- everybody else
@@ -44,8 +41,8 @@ class OpenRight(NamedTuple):
         """The finding, and what is found; below a directory, by its name, that everybody else cannot search, or where there is
         none."""
         if closed is None:
-            return self.open, (self.detail, self.edit)
-        return self.behind, (b"closed by " + closed, self.edit)
+            return self.open, Mend(self.detail, self.edit)
+        return self.behind, Mend(b"closed by " + closed, self.edit)
 
 
 class EverybodyRights:
@@ -171,7 +168,7 @@ class Writers:
 class WritingEntries(NamedTuple):
     """The entries of a record that have w."""
 
-    users: List[Tuple[Key, int, int]]  # Of users who are no owners, each with the user, and the others of the user's groups.
+    users: List[Tuple[Entry, int, int]]  # Of users who are no owners, each with the user, and the others of the user's groups.
     teams: Dict[int, bytes]  # Groups by their members, where these can remove each other's files; one of those with the same.
 
 
@@ -180,7 +177,7 @@ def writing_entries(audited: Audited, teams: Teams, file: File) -> WritingEntrie
     for (tag, number), entry in ((it.key, it) for it in record.access if it.grants(WRITE)):
         name = audited.ids.names.get((tag, number), b"")
         if tag == USER and number not in (b"", record.owner) and name in teams.bits:
-            found.users.append(((tag, number), teams.bits[name], teams.fellows(name)))
+            found.users.append((entry, teams.bits[name], teams.fellows(name)))
         elif tag == GROUP and file.is_directory and not is_sticky(record.flags):
             found.teams.setdefault(teams.members(int(number or record.group)), number or record.group)
     return found
@@ -200,48 +197,14 @@ def of_writers(audited: Audited) -> Findings:
         may, record = writers.of(file, path), read_record(file.body)
         gids = [gid for members, gid in its.teams.items() if members & may]
         if len(gids) > 1:
-            mends["writable-by-teams"][key] = (b", ".join(audited.ids.shown((GROUP, it)) for it in gids),
-                                               b"chmod " + digits(record, flag_digit(record.flags) | 1))
+            mends["writable-by-teams"][key] = Mend(b", ".join(audited.ids.shown((GROUP, it)) for it in gids),
+                                                   b"chmod " + digits(record, flag_digit(record.flags) | 1))
         outside = [entry for entry, user, fellows in its.users if user & may and not fellows & may]
         if outside:
-            mends["writer-outside-groups"][key] = without_entries(audited, outside)
+            mends["writer-outside-groups"][key] = without_writing(audited, outside)
     paths = alike.paths(key for of_key in mends.values() for key in of_key)
     found: Findings = {name: FoundFiles() for name in mends}
     for name, of_key in mends.items():
         for key, mend in of_key.items():
             found[name].add(paths[key], [mend] * len(paths[key]))
     return found
-
-
-# --- entries without effect
-
-
-Removal = Tuple[bytes, Tuple[Key, ...]]  # Entries that go out of a record.
-
-
-def without_effect(audited: Audited, removals: List[Removal]) -> List[Removal]:
-    """Those that change no rights of the snapshot's users: they are done in a session that has a file for each."""
-    if not removals:
-        return []
-    texts = audited.world.texts
-    dump = b"".join(FILE_HEAD + b"/%d\n" % place + body + b"\n" for place, (body, _) in enumerate(removals))
-    lines = [b"%s %d\n" % (without_entries(audited, keys)[1], place) for place, (_, keys) in enumerate(removals)]
-    with session_over(audited.program, texts.passwd, texts.group, dump) as session:
-        for part in parts_of(lines, LINES_ROOM):
-            messages = session.ask(b"".join(part)).messages
-            if messages:
-                raise Failure(b"the program refused to remove an entry: " + messages[0])
-        changed = {path_in(b"changes", line) for line in session.ask_accepted(b"changes").lines()}
-    return [removal for place, removal in enumerate(removals) if b"%d" % place not in changed]
-
-
-def removable(audited: Audited) -> Dict[bytes, Mend]:
-    """By record what is found of the entries that can go together; where each can go and not all of them, of the first."""
-    bodies = dict.fromkeys(file.body for file in audited.kinds.values())
-    single: List[Removal] = [(body, (key,)) for body in bodies for key in named(read_record(body).access)
-                             if audited.ids.has(key)]
-    of_body: Dict[bytes, Tuple[Key, ...]] = {}
-    for body, keys in without_effect(audited, single):
-        of_body[body] = of_body.get(body, ()) + keys
-    agreed = {body for body, _ in without_effect(audited, [it for it in of_body.items() if len(it[1]) > 1])}
-    return {body: without_entries(audited, keys if body in agreed else keys[:1]) for body, keys in of_body.items()}

@@ -6,14 +6,14 @@ from typing import Dict, Iterator, List, NamedTuple, Optional, Set, Tuple
 from ...base.names import path_word, places_below, read_name, shown_path, write_user
 from ...model.choice import is_recorded
 from ...model.entries import Entries, entries_of
-from ...model.everybody import World, files_of
+from ...model.everybody import SHOWN, World, files_of
 from ...model.people import Group
 from ...model.records import name_of, path_of, paths_in, paths_of, records_in
 from ...model.rules_of_lists import grants_search, writing
 from ...model.sources import find_tops
 from ...program.session import OutputSlice
 from .rules import (
-    ALWAYS, ENTER, NEVER, ONLY, OTHERS, PEOPLE, READ, WRITE, Rule, RuleReader, group_word, rule_path, user_word,
+    ALWAYS, BELOW, ENTER, NEVER, ONLY, PEOPLE, READ, WRITE, Rule, RuleReader, group_word, rule_path, user_word,
 )
 
 REQUESTS = {READ: b"r", WRITE: b"w", ENTER: b"x"}
@@ -40,7 +40,7 @@ class Violation(NamedTuple):
 
 class RuleOutcome(NamedTuple):
     rule: Rule
-    files: int  # At or below the path.
+    files: int  # That it is about.
     violations: List[Violation]
 
     def joined(self, other: RuleOutcome) -> RuleOutcome:
@@ -62,7 +62,7 @@ class Rights:
         self.reach = world.reach(is_alone)
         self.left_out: Set[bytes] = set()  # Users who are not chosen, and may what a rule gives to others only.
         self.answers: Dict[bytes, OutputSlice] = {}
-        self.known: Dict[Tuple[bytes, bytes, bytes], List[bytes]] = {}
+        self.known: Dict[Tuple[bytes, bytes, bytes, bool], List[bytes]] = {}
 
     def ask(self, tool: bytes, *words: bytes) -> OutputSlice:
         line = b"%s %s-- %s" % (tool, self.reach, b" ".join(words))
@@ -75,19 +75,24 @@ class Rights:
             self.directories = {it for it, file in files_of(self.world).above.items() if file.is_directory}
         return path in self.directories
 
-    def asked(self, right: bytes, top: bytes) -> List[bytes]:
-        """The files at or below a path that a right is about, in path order: only directories are entered, and a file
-        that is given itself."""
-        paths = self.paths[slice(*places_below(self.paths, top))]
+    def asked(self, right: bytes, top: bytes, is_below: bool = False) -> List[bytes]:
+        """The files at or below a path, or below it, that a right is about, in path order: only directories are entered, and
+        a file that is given itself."""
+        start, end = places_below(self.paths, top)
+        paths = self.paths[start + (is_below and self.paths[start : start + 1] == [top]) : end]
         return [it for it in paths if self.is_directory(it) or it == top] if right == ENTER else paths
 
-    def some(self, right: bytes, top: bytes) -> Dict[bytes, int]:
-        """The users who may at least ask for a right on some file at or below a path, and on how many; of the root, where
-        it is not recorded, below the tops of the snapshot."""
+    def some(self, right: bytes, top: bytes, is_below: bool) -> Dict[bytes, int]:
+        """The users who may at least ask for a right on some file at or below a path, or below it, and on how many; of the
+        root, where it is not recorded, below the tops of the snapshot."""
         session = self.world.session
         tops = [top] if top or is_recorded(session, top) else find_tops(session, session.folder)
         lines = [line.split(b" ", 2) for line in self.ask(b"below", REQUESTS[right], *map(path_word, tops)).lines()]
-        return {read_name(user): int(count) for count, user, _ in lines}
+        found = {read_name(user): int(count) for count, user, _ in lines}
+        if is_below and is_recorded(session, top):
+            for name in map(read_name, self.ask(b"who", REQUESTS[right], path_word(top)).lines()):
+                found[name] -= 1
+        return {name: count for name, count in found.items() if count}
 
     def may(self, user: bytes, request: bytes, top: bytes) -> Set[bytes]:
         """The files at or below a path on which a user is granted a request. They follow each other in the answer, in
@@ -102,13 +107,13 @@ class Rights:
         names = text[min(found) : text.index(b"\n", max(found) + 1)].split(b"\n") if found else []
         return set(paths_of(list(filter(None, names))))
 
-    def granted(self, user: bytes, right: bytes, top: bytes) -> List[bytes]:
-        """The files at or below a path on which a user has a right."""
-        key = user, right, top
+    def granted(self, user: bytes, right: bytes, top: bytes, is_below: bool = False) -> List[bytes]:
+        """The files at or below a path, or below it, on which a user has a right."""
+        key = user, right, top, is_below
         if key not in self.known:
             may = self.may(user, REQUESTS[right], top)
             inside = self.may(user, writing(is_directory=True), top) if right == WRITE and may else may
-            self.known[key] = [path for path in self.asked(right, top) if path in may
+            self.known[key] = [path for path in self.asked(right, top, is_below) if path in may
                                and (path in inside or not self.is_directory(path))]
         return self.known[key]
 
@@ -148,14 +153,14 @@ def subjects(rights: Rights, rule: Rule) -> List[bytes]:
 
 def outcome(rights: Rights, rule: Rule) -> RuleOutcome:
     """Whether a rule holds, and for whom it does not."""
-    asked, some = rights.asked(rule.right, rule.path), rights.some(rule.right, rule.path)
+    asked, some = rights.asked(rule.right, rule.path, rule.is_below), rights.some(rule.right, rule.path, rule.is_below)
     if rule.kind == ONLY:
         rights.left_out |= some.keys() - rule.users - {*rights.users}
     violations: List[Violation] = []
     for place, user in enumerate(subjects(rights, rule)):
         if rule.kind == ALWAYS and rule.right == READ and rights.is_all and some.get(user) == len(asked):
             continue  # It is so on all files, and `below` counts no others.
-        paths = rights.granted(user, rule.right, rule.path) if user in some else []
+        paths = rights.granted(user, rule.right, rule.path, rule.is_below) if user in some else []
         if rule.kind == ALWAYS:  # Those that are missing.
             known = set(paths)
             paths = [path for path in asked if path not in known]
@@ -180,27 +185,38 @@ def words_of(names: Set[bytes], reader: RuleReader) -> List[bytes]:
     return [*found, *map(user_word, sorted(rest))]
 
 
-def rules_of(rights: Rights, reader: RuleReader, right: bytes, top: bytes) -> Iterator[List[bytes]]:
-    """The rules on one right at or below a path, each as its words without right and path."""
-    number, some = len(rights.asked(right, top)), rights.some(right, top)
-    counts = {name: len(rights.granted(name, right, top)) for name in rights.users if name in some}
+def rules_of(rights: Rights, reader: RuleReader, right: bytes, top: bytes, is_below: bool) -> Iterator[List[bytes]]:
+    """The rules on one right at or below a path, or below it, each as its words without right and path."""
+    number, some = len(rights.asked(right, top, is_below)), rights.some(right, top, is_below)
+    if not number:
+        return
+    counts = {name: len(rights.granted(name, right, top, is_below)) for name in rights.users if name in some}
     of_others = counts.pop(rights.world.everybody.name, 0)
     able = {name for name, count in counts.items() if count}
     full = {name for name, count in counts.items() if count == number}
     if not of_others:
-        yield [NEVER, OTHERS]
+        yield [NEVER, SHOWN]
         yield [ONLY, *words_of(able, reader)] if able else [NEVER, PEOPLE]
     elif of_others == number:
-        yield [ALWAYS, OTHERS]
+        yield [ALWAYS, SHOWN]
     if full:
         yield [ALWAYS, *words_of(full, reader)]
+
+
+def rules_at(rights: Rights, reader: RuleReader, right: bytes, top: bytes, is_directory: bool) -> Iterator[bytes]:
+    """The rules on one right at or below a path; and of a directory those of a kind that holds only below it."""
+    kinds: Set[bytes] = set()
+    for is_below in (False, *[True] * is_directory):
+        word = rule_path(top, is_directory and not is_below, rights.world.is_whole)
+        for words in [it for it in rules_of(rights, reader, right, top, is_below) if it[0] not in kinds]:
+            yield b" ".join([*words, right, *[BELOW] * is_below, word])
+            kinds.update(words[:1] * (not is_below))
 
 
 def rules_that_hold(rights: Rights, reader: RuleReader, tops: List[bytes]) -> Iterator[bytes]:
     """The lines of the file, with a comment for each path."""
     for top in tops:
-        word = rule_path(top, rights.is_directory(top) or not is_recorded(rights.world.session, top), rights.world.is_whole)
-        yield b"\n# " + word
-        rules = [b" ".join([*words, right, word]) for right in (READ, WRITE)
-                 for words in rules_of(rights, reader, right, top)]
+        is_directory = rights.is_directory(top) or not is_recorded(rights.world.session, top)
+        yield b"\n# " + rule_path(top, is_directory, rights.world.is_whole)
+        rules = [rule for right in (READ, WRITE) for rule in rules_at(rights, reader, right, top, is_directory)]
         yield from rules or [NONE]

@@ -21,15 +21,16 @@ from .rules import INPUT, Faults, RuleReader
 HELP = """\
 Checks that rules hold in a snapshot. RULES is a file of lines
 
-    never   xaver           read   srv/finance/     # a contractor
-    only    anna bert @hr   read   srv/hr/payroll/
-    always  mara            write  srv/legal/cases/
-    never   others          write  /
+    never   xaver               read   below /srv/teams     # a contractor
+    only    anna bert group hr  read   /srv/hr/payroll
+    always  mara                write  /srv/legal/cases
+    never   everybody else      write  /
 
 never: none of these may, on any file at or below the path. only: no other user may, and nobody else. always: each of
-these may, on every file at or below it. A user is a name or an id, @GROUP its members, `people` all users whom the
-check is about, `others` everybody else, whom no list names, as a user whom the snapshot does not have, and `everybody`
-both. Rights are those along paths.
+these may, on every file at or below it. With `below` a rule is about what is below the path, and not about the folder
+itself. A user is a name or an id, `group NAME` its members, `people` all users whom the check is about, `everybody
+else` whoever no ACL names, as a user whom the snapshot does not have, and `everybody` both. Rights are those along
+paths.
 
 A rule that does not hold is printed with the users for whom it does not, the first files, the entries that decide
 there, and who else may. With --write the rules that hold are printed, of FOLDERs in place of RULES, as a start.
