@@ -72,7 +72,7 @@ class States(JobCase):
     """Random states: the older one is back on each path that is in both, and nothing else changes."""
 
     def test_random_states(self) -> None:
-        for seed in range(10):
+        for seed in range(6):
             chance = random.Random(seed)
             old, now = random_states(chance)
             folders = sorted({name for name in old if name in now and name.endswith(b"/")})
@@ -134,6 +134,14 @@ class Lines(JobCase):
             done = self.verb("restore", word)
             self.assertEqual(done.status, 2)
             self.assertIn(name + b": is not ", done.messages)
+
+    def test_a_store_of_several_folders(self) -> None:
+        self.states({b"/srv/f": record(1001, 0)}, {b"/srv/f": record(0, 0)})
+        self.put("home", {b"/": TOP[b"/"], b"/home/": record(0, 0)}, seconds=5)
+        self.write("store/home/meta", self.read("store/home/meta").replace(b"folder /srv", b"folder /home"))
+        self.expect_done(self.verb("restore", "/srv", "-q"), 2, [], [
+            b"facl restore: /srv: is not in the snapshot home, which has /home; these have it, for --now: now, old"])
+        self.assertEqual(self.verb("restore", "/srv", "-q", "--now", "now").status, 0)
 
     def test_nothing_to_do(self) -> None:
         self.states({b"/srv/f": record(0, 0)}, {b"/srv/f": record(0, 0), b"/srv/g": record(0, 0)})

@@ -35,9 +35,9 @@ def choose(command: Command, given: argparse.Namespace) -> None:
         command.say(note)
 
 
-def check_undivided(command: Command, stored: store.Stored) -> None:
+def check_undivided(command: Command, stored: store.Stored, option: bytes = b"-s") -> None:
     if stored.parts:
-        raise Failure(stored.name + b": has several parts; %s takes one: -s " % command.name + stored.parts[0])
+        raise Failure(stored.name + b": has several parts; %s takes one: %s " % (command.name, option) + stored.parts[0])
 
 
 def new_snapshot(_command: Command, given: argparse.Namespace) -> None:
@@ -110,10 +110,10 @@ def restore(command: Command, given: argparse.Namespace) -> None:
 
     now = store.newest() if given.now is None else store.named(os.fsencode(given.now))
     old = store.before(now) if store.is_none_named(given.snapshot) else store.chosen(given.snapshot)
-    for it in (now, old):
-        check_undivided(command, it)
+    for it, option in ((now, b"--now"), (old, b"-s")):
+        check_undivided(command, it, option)
         check_texts(it.folder)
-        store.check_paths(it, [os.fsencode(given.within)])
+        store.check_paths(it, [os.fsencode(given.within)], option)
     store.check_older(old, now)
     given.folder = os.fsdecode(now.folder)
     for note in () if given.quiet else store.notes(now):

@@ -262,12 +262,12 @@ def notes(stored: Stored) -> Iterator[bytes]:
         yield b"the snapshot %s is of the host %s, not of this one" % (stored.name, stored.about.host)
 
 
-def check_paths(stored: Stored, words: List[bytes]) -> None:
-    """Fails for a path that the snapshot does not have; says what it has, and which snapshots have the path."""
+def check_paths(stored: Stored, words: List[bytes], option: bytes = b"-s") -> None:
+    """Fails for a path that the snapshot does not have; says what it has, and which snapshots, for an option, have the path."""
     for word in words:
         if not word or stored.has(word) is not False:
             continue
         others = [it for it in snapshots_in(place()) if not it.fault and it.has(word)]
-        instead = b"; these have it, for -s: " + few(others) if others else b"; to record it: facl snapshot " + word
+        instead = b"; these have it, for %s: " % option + few(others) if others else b"; to record it: facl snapshot " + word
         tops = b", ".join(map(live_name, map(read_path, stored.about.folders)))
         raise Failure(word + b": is not in the snapshot %s, which has " % stored.name + tops + instead)

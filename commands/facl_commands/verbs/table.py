@@ -197,7 +197,7 @@ MEANT: Dict[str, str] = {
     "compare": "diff", "changes": "diff", "find": "audit", "findings": "audit", "fix": "audit fix", "mend": "audit fix",
     "test": "check", "edit": "plan", "revert": "undo", "rollback": "undo", "prompt": "ask",
     "record": "snapshot",
-    "html": "page", "man": "help",
+    "html": "page", "man": "help", "grant": "open", "allow": "open", "chgrp": "move-group",
 }
 
 
