@@ -111,10 +111,10 @@ class Lines(JobCase):
         self.assertEqual([*self.planned("one")], [b"srv/f"])
 
     def test_many_files(self) -> None:
-        names = [b"/srv/a long name, as files of people have them, %d" % number for number in range(5_000)]
+        names = [b"/a %d" % number for number in range(1_000, 8_000)]  # Short ones, whose quotes count.
         folder = self.put("now", {**TOP, **{name: record(0, OLD, "rwxr-x---", "group:2001:r-x mask::rwx") for name in names}})
         lines = moving(LINUX.find(), os.fsencode(folder), [b"/", b"2001", b"2002"]).edits.splitlines()
-        self.assertLess(len(lines), 20)
+        self.assertLess(len(lines), 6)
         self.assertLess(max(map(len, lines)), 65_536)
         for begin in (b"chgrp law ", b"setfacl -n -x g:hr -m g:law:rx "):
             its = b" ".join(line[len(begin):] for line in lines if line.startswith(begin))

@@ -7,7 +7,7 @@ from typing import Dict, Iterable, Iterator, List, Match, NamedTuple, Set
 
 from ..base.folders import folder_of
 from ..base.messages import Failure, counted
-from ..base.names import at_or_below, file_name, file_word, number_of, path_word, plain_word, read_name, sorting_key, write_user
+from ..base.names import at_or_below, file_name, file_word, number_of, plain_word, read_name, sorting_key, write_user
 from ..model import choice
 from ..model.entries import NOTHING, flag_digit, head_lines, id_word, lists_of, perms, read_record
 from ..model.people import Group, People, is_named, users_by_group
@@ -110,8 +110,8 @@ def lines_of(moves: Moves, other_names: Set[bytes]) -> Iterator[bytes]:
             made = b",".join(b"%sg:%s:%s" % (begin, moves.word(moves.new), its or NOTHING) for begin, its in change.entries.items())
             lines.setdefault(b"setfacl -n -x %s -m %s" % (plain_word(gone), plain_word(made)), []).append(path)
     for begin, paths in lines.items():
-        for part in parts_of(paths, word_of=path_word):
-            yield b" ".join([begin, *(file_word(path, moves.is_whole) for path in part)]) + b"\n"
+        for words in parts_of(file_word(path, moves.is_whole) for path in paths):
+            yield b" ".join([begin, *words]) + b"\n"
     text = {path: File(False, moves.changes[path].body) for path in with_flags}
     if text:
         yield RESTORE + b"\n" + write_records(text, text) + b".\n"

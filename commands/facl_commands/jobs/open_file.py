@@ -92,22 +92,22 @@ def edit_of(wanted: Wanted, path: bytes, body: bytes, entries: Entries, letters:
     with_mask = edit + b",m::" + perms(mask + needed)
     if not record.has_mask():
         return with_mask
+    line = line_of(with_mask, [file_word(path, wanted.world.is_whole)])
     raise Failure(b"%s: its mask is %s, and %s needs %s there; nothing within the mask grants that. This widens it, for all whom the "
-                  b"ACL names: %s" % (wanted.world.name_of(path), mask, wanted.name(), needed, line_of(wanted, with_mask, [path])), CANNOT)
+                  b"ACL names: %s" % (wanted.world.name_of(path), mask, wanted.name(), needed, line), CANNOT)
 
 
-def line_of(wanted: Wanted, edit: bytes, paths: List[bytes]) -> bytes:
-    return b" ".join([b"setfacl -n -m", plain_word(edit), *(file_word(path, wanted.world.is_whole) for path in paths)])
+def line_of(edit: bytes, words: List[bytes]) -> bytes:
+    return b" ".join([b"setfacl -n -m", plain_word(edit), *words])
 
 
 def lines_of(wanted: Wanted, edits: Dict[bytes, bytes]) -> Iterator[bytes]:
     """A line for the paths that get the same entry, or several where it has no room for them."""
-    paths_of: Dict[bytes, List[bytes]] = {}
+    words_of: Dict[bytes, List[bytes]] = {}
     for path, edit in edits.items():
-        paths_of.setdefault(edit, []).append(path)
-    for edit, paths in paths_of.items():
-        for part in parts_of(paths, word_of=path_word):
-            yield line_of(wanted, edit, part)
+        words_of.setdefault(edit, []).append(file_word(path, wanted.world.is_whole))
+    for edit, words in words_of.items():
+        yield from (line_of(edit, part) for part in parts_of(words))
 
 
 # --- the lines are tried
