@@ -15,9 +15,10 @@ sys.path.insert(0, COMMANDS)
 
 from facl_commands.base.names import parent_of  # noqa: E402
 from facl_commands.base.programs import ACL5, LINUX  # noqa: E402
+from facl_commands.base.user_tools import User  # noqa: E402
 from facl_commands.model import rules_of_lists as rules  # noqa: E402
-from facl_commands.model.entries import entries_of  # noqa: E402
-from facl_commands.model.records import path_of  # noqa: E402
+from facl_commands.model.entries import entries_of, read_record  # noqa: E402
+from facl_commands.model.records import body_of, path_of  # noqa: E402
 from facl_commands.program.session import Session  # noqa: E402
 
 USERS, GROUPS = range(1, 9), range(11, 16)
@@ -99,6 +100,24 @@ class ByTheProgram(Case):
                 self.assertEqual(granted, searched)
                 seen |= set(granted)
             self.assertEqual(seen, {False, True})
+
+    def test_the_entry_that_grants(self) -> None:
+        """It grants what it is to grant, and each permission that the user had, where the mask leaves all."""
+        names = [b"f%03d" % number for number in range(200)]
+        for session in self.sessions(b"".join(record_text(self.chance, name, False) for name in names)):
+            before, wanted = self.vectors(session), {}
+            for name in names:
+                place, letters = self.chance.randrange(len(USERS)), self.chance.choice([b"r", b"w", b"x", b"rw"])
+                user = User(b"u%d" % USERS[place], USERS[place], 0)
+                why, listed = (session.ask_accepted(line + name).read() for line in (b"why %s " % user.name, b"getfacl -n -E "))
+                entry = rules.entry_that_grants(read_record(body_of(listed)[:-1]), entries_of(why), user, letters)
+                session.ask_accepted(b"setfacl -n -m %s%s %s" % (entry, b",m::rwx" * (entry[:3] != b"u::"), name))
+                wanted[name] = place, sum(1 << b"xwr".index(letter) for letter in letters)
+            after = self.vectors(session)
+            for name, (place, request) in wanted.items():
+                row = after[name][place]
+                self.assertTrue(row >> request & 1, name)
+                self.assertEqual([it for it in (1, 2, 4) if before[name][place] >> it & 1 and not row >> it & 1], [], name)
 
     def test_flags_and_default_lists_decide_on_nothing(self) -> None:
         """So files with one owner, group and access list are asked of once."""

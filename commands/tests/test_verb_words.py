@@ -33,6 +33,9 @@ BASES: Dict[str, Tuple[str, str]] = {
     "plan": ("edits -o made", "facl-plan OPTIONS --plan made SNAP edits"),
     "apply": ("absent", "facl-apply OPTIONS absent"),
     "undo": ("absent", "facl-apply --undo OPTIONS absent"),
+    "open": ("/srv/project/notes.txt guest r -o made", "facl-plan OPTIONS --plan made SNAP edits"),
+    "move-group": ("/srv/project/drafts/old design staff -o made", "facl-plan OPTIONS --plan made SNAP moved"),
+    "restore": ("/srv/project -s old -o made", "facl-plan OPTIONS --plan made SNAP back"),
     "page": ("", "facl-report OPTIONS SNAP"),
     "review": ("/srv/project", "facl-report OPTIONS --for-review --folder /srv/project SNAP"),
     "ask": ("script", "facl-ask OPTIONS SNAP script"),
@@ -102,6 +105,9 @@ class Commands(VerbCase):
         self.snap, self.old = self.stored("new"), self.stored("old", seconds=3 * DAY)
         dump = self.read("store/new/dump")
         self.write("store/new/dump", dump.replace(b"mask::r--", b"mask::rw-"))
+        records = b"".join(it + b"\n\n" for it in dump.split(b"\n\n") if b"mask::r--" in it)
+        self.write("back", b"setfacl --restore=-\n" + records + b".\n")
+        self.write("moved", b"chgrp staff /srv/project/drafts/old '/srv/project/drafts/old/logo 1.svg'\n")
         os.mkdir(self.path("tree"))
         for name, text in (("edits", b"setfacl -n -m u:guest:r /srv/project/notes.txt\n"), ("script", b"who r srv\n"),
                            ("rules", b"never guest read /srv/project/\n"), ("names", b"root\n"),

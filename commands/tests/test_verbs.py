@@ -47,6 +47,9 @@ SAME: Tuple[Tuple[str, str], ...] = (
     ("plan edits --full --json -o one", "facl-plan --full --json --plan one SNAP edits"),
     ("plan edits bad --keep-going -o two", "facl-plan --keep-going --plan two SNAP edits bad"),
     ("plan bad -o a", "facl-plan --plan a SNAP bad"),
+    ("open %s guest r --alone -o four" % NOTES, "facl-plan --file-alone --plan four SNAP edits"),
+    ("move-group /srv/project/drafts/old design staff -o five", "facl-plan --plan five SNAP moved"),
+    ("restore /srv/project -s OLD -o three", "facl-plan --plan three SNAP back"),
     ("page", "facl-report SNAP"), ("page edits --alone --with-root", "facl-report --file-alone --with-root SNAP edits"),
     ("review /srv/project/drafts", "facl-report --for-review --folder /srv/project/drafts SNAP"),
     ("ask script", "facl-ask SNAP script"), ("ask script script --headings", "facl-ask --headings SNAP script script"),
@@ -119,6 +122,9 @@ class Verbs(VerbCase):
         dump = self.read("store/new/dump")
         self.write("store/new/dump", dump.replace(b"mask::r--", b"mask::rw-"))
         self.write("edits", b"setfacl -n -m u:guest:r /srv/project/notes.txt\n")
+        self.write("back", b"setfacl --restore=-\n" + b"".join(
+            it + b"\n\n" for it in dump.split(b"\n\n") if b"mask::r--" in it) + b".\n")
+        self.write("moved", b"chgrp staff /srv/project/drafts/old '/srv/project/drafts/old/logo 1.svg'\n")
         self.write("bad", b"frob\nchmod 600 /srv/project/notes.txt\n")
         self.write("rules", b"never guest read /srv/project/\n")
         self.write("broken", b"never mara read /srv/project/\n")

@@ -5,7 +5,7 @@ import re
 from functools import lru_cache
 from typing import Dict, FrozenSet, Iterable, NamedTuple, Tuple
 
-from ..base.names import write_user
+from ..base.names import PLAIN_SHELL_WORD, write_user
 from ..program.protocol import EFFECTIVE, FLAGS_HEAD, GROUP_HEAD, OWNER_ENTRY, OWNER_HEAD
 from .people import ids_of
 
@@ -124,6 +124,22 @@ class NamesOfIds:
     def entry(self, entry: Entry, begin: bytes = b"") -> bytes:
         """A whole entry, for a script."""
         return begin + self.word(entry.key) + b":" + entry.permissions
+
+
+def perms(letters: bytes) -> bytes:
+    """Permissions as a word of an entry."""
+    return bytes(letter for letter in b"rwx" if letter in letters)
+
+
+def granted_by(entries: Entries) -> bytes:
+    """What some entries grant together."""
+    return perms(b"".join(it.effective for it in entries))
+
+
+def id_word(name: bytes, number: int) -> bytes:
+    """What names a user or a group in an entry: the id where the name is not plain."""
+    is_plain = PLAIN_SHELL_WORD.match(name) and not name.isdigit() and not set(name) & set(b":,")
+    return name if is_plain else b"%d" % number
 
 
 def without(permissions: bytes, letter: bytes) -> bytes:

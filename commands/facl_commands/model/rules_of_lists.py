@@ -7,7 +7,8 @@ from __future__ import annotations
 
 from typing import Iterable, Optional
 
-from .entries import Entry
+from ..base.user_tools import User
+from .entries import OWNER_KEY, USER, Entries, Entry, ReadRecord, granted_by, id_word, named, perms
 
 Vector = bytes  # A byte of `index` for each user, on one file: its bit R says whether the request R is granted.
 NOTHING = 1  # The byte that grants no more than the request for nothing.
@@ -44,6 +45,17 @@ def grants_search(entries: Iterable[Entry]) -> bool:
     """Returns whether one of the entries that decide on a user has x as the mask leaves it, which is search on a directory:
     acl(5), ACCESS CHECK ALGORITHM."""
     return any(it.grants(b"x") for it in entries)
+
+
+def entry_that_grants(record: ReadRecord, entries: Entries, user: User, letters: bytes) -> bytes:
+    """Returns the entry of a user that grants more letters and takes none, as far as a mask leaves them: the owner's of the owner,
+    else one that names the user. That one comes before those of groups and others, so it has what these grant, by the entries
+    that decide so far: acl(5), ACCESS CHECK ALGORITHM."""
+    granted = granted_by(entries) + letters
+    if entries[0].key == OWNER_KEY:
+        return b"u::" + perms(granted)
+    own = named(record.access).get((USER, b"%d" % user.uid))
+    return b"u:" + id_word(user.name, user.uid) + b":" + perms(granted + (b"" if own is None else own.permissions))
 
 
 # --- in a directory

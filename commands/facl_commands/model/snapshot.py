@@ -15,6 +15,7 @@ from . import meta
 
 NEEDED = TEXTS
 FIELDS = 4  # Of a record of inodes.
+NO_BOOT = b"-"  # Of a system that does not say since when it runs.
 PLAIN_BIRTHS = re.compile(rb"(?:[0-9]+\.[0-9]+ )*")
 PIECE = 1 << 18  # Bytes.
 
@@ -49,6 +50,25 @@ def read_inodes(text: bytes) -> Dict[bytes, Identity]:
         device, inode, birth, name = record.split(b" ", 3)
         found[name.strip(b"/")] = Identity(int(device), int(inode), nanoseconds(birth))
     return found
+
+
+class Inodes(NamedTuple):
+    """Which files some paths are, by the file `inodes` of a snapshot."""
+
+    boot: bytes
+    files: Dict[bytes, Identity]
+
+
+def read_some(folder: bytes, paths: Set[bytes]) -> Inodes:
+    """What is known of some paths; nothing where the snapshot has no inodes."""
+    records = folder_of(folder).optional(b"inodes").split(b"\0")
+    found: Dict[bytes, Identity] = {}
+    for record in records[1:-1]:
+        fields = record.split(b" ", 3)
+        path = fields[-1].strip(b"/")
+        if path in paths and len(fields) == 4 and fields[0].isdigit() and fields[1].isdigit():
+            found[path] = Identity(int(fields[0]), int(fields[1]), nanoseconds(fields[2]))
+    return Inodes(records[0].partition(b" ")[2] or NO_BOOT, found)
 
 
 def counts_of(inodes: Dict[bytes, Identity]) -> InodeCounts:

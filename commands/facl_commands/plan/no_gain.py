@@ -9,14 +9,14 @@ from typing import Dict, Iterator, List, NamedTuple, Optional, Set, Tuple
 
 from ..base.messages import counted
 from ..base.names import (
-    PLAIN_SHELL_WORD, file_name, file_word, parent_of, path_word, plain_word, script_word, sorting_key, way_to, write_user,
+    file_name, file_word, parent_of, path_word, plain_word, script_word, sorting_key, way_to, write_user,
 )
 from ..base.user_tools import User
-from ..model.entries import GROUP, OWNER_KEY, USER, Entries, Entry, entries_of, named, read_record
+from ..model.entries import GROUP, OWNER_KEY, USER, Entries, Entry, entries_of, granted_by, id_word, named, perms, read_record
 from ..model.label_answers import PeopleTexts, Vectors, ask_vectors
 from ..model.people import Group, People, groups_by_user, user_word
 from ..model.records import Files, write_records
-from ..model.rules_of_lists import HAS_SEARCH, NOTHING, grants_search
+from ..model.rules_of_lists import HAS_SEARCH, NOTHING, entry_that_grants, grants_search
 from ..program.protocol import ENTRIES_OF, RESTORE
 from ..program.session import LINE_ROOM, Session
 
@@ -226,36 +226,23 @@ def find(session: Session, program: str, texts: PeopleTexts, files: Tuple[Files,
 # --- what opens it
 
 
-def perms(letters: bytes) -> bytes:
-    return bytes(letter for letter in b"rwx" if letter in letters)
-
-
-def granted_by(entries: Entries) -> bytes:
-    return perms(b"".join(it.effective for it in entries))
-
-
-def id_word(name: bytes, number: int) -> bytes:
-    """What names a user or a group in an entry: the id where the name is not plain."""
-    is_plain = PLAIN_SHELL_WORD.match(name) and not name.isdigit() and not set(name) & set(b":,")
-    return name if is_plain else b"%d" % number
-
-
 def edits_to_try(entries: Entries, body: bytes, user: User, group: Optional[Group]) -> List[bytes]:
     """What may give search on a directory and take nothing from the user, on whom entries decide so far: the mask alone,
     an entry of the group or the user, and both. Where the mask is empty, entries count again once it is not."""
     granted, kind, record = granted_by(entries), entries[0].key, read_record(body)
+    entry = entry_that_grants(record, entries, user, b"x")
     if kind == OWNER_KEY:
-        return [b"u::" + perms(granted + b"x")]
+        return [entry]
     known = named(record.access)
     own = known.get((USER, b"%d" % user.uid))
-    begin, present = b"u:" + id_word(user.name, user.uid) + b":", granted + (b"" if own is None else own.permissions)
     if own is None and group is not None:
         its = known.get((GROUP, b"%d" % group.gid))
         is_owning = int(record.group) == group.gid
         begin = b"g::" if is_owning else b"g:" + id_word(group.name, group.gid) + b":"
         present = record.permissions(GROUP) if is_owning else b"" if its is None else its.permissions
         present += b"" if kind[0] == GROUP else granted  # Which its other groups still grant.
-    entry, mask = begin + perms(present + b"x"), b"m::" + perms(record.group_class() + granted + b"x")
+        entry = begin + perms(present + b"x")
+    mask = b"m::" + perms(record.group_class() + granted + b"x")
     return [mask] * (own is not None or not record.has_empty_mask()) + [entry, entry + b"," + mask]
 
 

@@ -2,17 +2,19 @@
 from __future__ import annotations
 
 import argparse
+import contextlib
 import importlib
 import os
 from typing import Callable, List, NamedTuple
 
 from .. import VERSION
+from ..base.folders import kept
 from ..base.messages import Command, Failure
 from ..base.programs import HOME, PART
 from ..base.progress import AT
 from .options import BY_FIELD, BY_NAME, PATH
 from .running import Runs
-from .table import BY_VERB, Verb, no_verb, parser_of, values_of, words_of
+from .table import BY_VERB, CHANGING, Verb, no_verb, parser_of, values_of, words_of
 
 PACKAGE = __package__.rpartition(".")[0]
 ORIGIN = os.path.join(HOME, "origin")  # What is known of the installed programs.
@@ -72,14 +74,15 @@ def version() -> bytes:
 
 
 def start(command: Command, verb: Verb, given: argparse.Namespace) -> int:
-    """Runs what the row of a verb says."""
+    """Runs what the row of a verb says. What the edits of a plan are made of is what they are planned over: it is opened once."""
     given.paths, given.takes_parts = paths_in(verb, given), verb.takes_parts()
-    verb.prepare(command, given)
-    option, other = verb.instead
-    is_other = bool(option) and bool(getattr(given, option))
-    module = importlib.import_module("%s.%s" % (PACKAGE, other if is_other else verb.module))
-    run: Callable[..., int] = module.body
-    return run(command, words_of(verb, given) if verb.words and not is_other else given)
+    with kept() if verb.group == CHANGING else contextlib.nullcontext():
+        verb.prepare(command, given)
+        option, other = verb.instead
+        is_other = bool(option) and bool(getattr(given, option))
+        module = importlib.import_module("%s.%s" % (PACKAGE, other if is_other else verb.module))
+        run: Callable[..., int] = module.body
+        return run(command, words_of(verb, given) if verb.words and not is_other else given)
 
 
 def answer_part(command: Command, words: List[str]) -> int:

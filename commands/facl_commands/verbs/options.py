@@ -59,7 +59,9 @@ MOST = 9_999_999
 ALL: Tuple[VerbOption, ...] = (
     # which snapshot, and who answers
     VerbOption(("-s", "--snapshot"),
-               "a snapshot of the store by its name, or any folder of one; the newest without it", "NAME", SNAPSHOT),
+               "a snapshot of the store by its name or day, or any folder of one; the newest without it (restore: the one before)",
+               "NAME", SNAPSHOT),
+    VerbOption(("--now",), "the snapshot of what is there now; the newest of the store without it", "NAME", SNAPSHOT),
     VerbOption(("--program",), "the program to ask, in the place of the one that is installed", "FILE", FILE,
                command="--program"),
     VerbOption(("--acl5",), "judge by the check of acl(5), and not by what Linux grants", command="--acl5"),

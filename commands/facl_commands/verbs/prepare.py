@@ -3,12 +3,21 @@ from __future__ import annotations
 
 import argparse
 import os
+from typing import Iterable
 
 from ..base import scratch
 from ..base.messages import Command, Failure
+from ..base.names import write_user
+from ..base.programs import find_program
+from ..jobs.notes import JobNote
+from ..model import choice, meta, sources
+from ..model.entries import perms
+from ..model.snapshot import check_texts
 from . import store
 
 EDITS = "edits"  # What a plan is named by, where its lines are in no file.
+NOTHING_TO_DO = 3  # As facl-plan ends.
+LONGEST_NAME = 200  # Characters in the name of a plan.
 
 
 def nothing(_command: Command, _given: argparse.Namespace) -> None:
@@ -18,13 +27,17 @@ def nothing(_command: Command, _given: argparse.Namespace) -> None:
 def choose(command: Command, given: argparse.Namespace) -> None:
     """Chooses the snapshot, says how old it is, and looks whether it has the paths of the line."""
     given.stored = store.chosen(given.snapshot)
-    if given.stored.parts and not given.takes_parts:
-        first = given.stored.parts[0]
-        raise Failure(given.stored.name + b": has several parts; %s takes one: -s " % command.name + first)
+    if not given.takes_parts:
+        check_undivided(command, given.stored)
     store.check_paths(given.stored, [*map(os.fsencode, given.paths)])
     given.folder = os.fsdecode(given.stored.folder)
     for note in () if given.quiet else store.notes(given.stored):
         command.say(note)
+
+
+def check_undivided(command: Command, stored: store.Stored, option: bytes = b"-s") -> None:
+    if stored.parts:
+        raise Failure(stored.name + b": has several parts; %s takes one: %s " % (command.name, option) + stored.parts[0])
 
 
 def new_snapshot(_command: Command, given: argparse.Namespace) -> None:
@@ -70,6 +83,80 @@ def plan(command: Command, given: argparse.Namespace) -> None:
     if given.output is None:
         name = os.path.basename(given.scripts[0])
         given.output = (EDITS if name in ("", "-", ".", "..") else name) + ".plan"
+
+
+# --- the edits of a job
+
+
+def take_job(command: Command, given: argparse.Namespace, edits: bytes, said: Iterable[JobNote]) -> None:
+    """Says what a person has to know of some edits, and plans them."""
+    for note in said:
+        note.say(command, given.full)
+    if not edits:
+        raise Failure(b"nothing to do", NOTHING_TO_DO)
+    take_edits(given, edits)
+
+
+def name_plan(given: argparse.Namespace, verb: str, word: str) -> None:
+    """Names the plan of a job by a path, unless it has a name."""
+    if given.output is None:
+        name = os.path.basename(word.rstrip("/")) or "root"
+        given.output = "%s-%s.plan" % (verb, name[:LONGEST_NAME])
+
+
+def restore(command: Command, given: argparse.Namespace) -> None:
+    """Chooses the older snapshot, and the one that it is planned over."""
+    from ..jobs.restore import restoring  # Few lines need it.
+
+    now = store.newest() if given.now is None else store.named(os.fsencode(given.now))
+    old = store.before(now) if store.is_none_named(given.snapshot) else store.chosen(given.snapshot)
+    for it, option in ((now, b"--now"), (old, b"-s")):
+        check_undivided(command, it, option)
+        check_texts(it.folder)
+        store.check_paths(it, [os.fsencode(given.within)], option)
+    store.check_older(old, now)
+    given.folder = os.fsdecode(now.folder)
+    for note in () if given.quiet else store.notes(now):
+        command.say(note)
+    if not given.quiet:
+        command.say(b"restores from " + meta.named(old.name, old.about))
+    job = restoring(find_program(given), old.folder, now.folder, os.fsencode(given.within))
+    name_plan(given, "restore", given.within)
+    take_job(command, given, job.edits, job.notes)
+
+
+def move_group(command: Command, given: argparse.Namespace) -> None:
+    """Chooses the snapshot, and what one group has there for another one."""
+    from ..jobs.move_group import moving  # Few lines need it.
+
+    choose(command, given)
+    words = [*map(os.fsencode, (given.within, given.oldgroup, given.newgroup))]
+    job = moving(find_program(given), given.stored.folder, words)
+    name_plan(given, "move-group", given.within)
+    if not (given.quiet and job.edits):
+        command.say(job.summary)
+    take_job(command, given, job.edits, job.notes)
+
+
+def open_file(command: Command, given: argparse.Namespace) -> None:
+    """Chooses the snapshot, and the entries that a user lacks on the way to a file."""
+    from ..jobs.open_file import Wanted, opening  # Few lines need it.
+    from ..model.everybody import SHOWN, world_of
+    from ..questions.who.asking import Asker, read_rights
+
+    choose(command, given)
+    letters = b"".join(right.letters for right in read_rights(given.perms))
+    word = os.fsencode(given.user)
+    if word == SHOWN:
+        raise Failure(SHOWN + b": no entry names whom the snapshot does not have; name a user")
+    with world_of(find_program(given), sources.Source(given.stored.folder, given.stored.name, False)) as world:
+        asker = Asker(world, argparse.Namespace(file_alone=given.alone, lists_alone=True))
+        shown = asker.user_of(word, has_row=True).shown
+        user = next(it for it in world.users if write_user(it.name) == shown)
+        path = choice.folder_of(world.session, os.fsencode(given.file))
+        job = opening(Wanted(world, user, path, perms(letters), given.alone))
+    name_plan(given, "open", given.file)
+    take_job(command, given, job.edits, job.notes)
 
 
 def ask(command: Command, given: argparse.Namespace) -> None:

@@ -21,6 +21,7 @@ OF_ROOT = b"/var/lib/facl"
 STORE, SNAPSHOT = b"FACL_STORE", b"FACL_SNAPSHOT"  # In the environment: another store, and the snapshot that is meant.
 DATE = "%Y-%m-%dT%H:%M:%SZ"  # As meta has it.
 NAME = "%Y-%m-%dT%H%M%S"  # Of a snapshot, in the time of the system.
+ONE_DAY = re.compile(rb"[0-9]{4}-[0-9]{2}-[0-9]{2}")
 UNFINISHED = re.compile(rb".+\.[A-Za-z0-9]{6}")  # The work folder of a facl-snapshot.
 MINUTE, HOUR, DAY = 60, 3600, 86400
 MOST_NAMES = 5  # In a message.
@@ -183,10 +184,19 @@ def few(stored: List[Stored]) -> bytes:
     return b", ".join(names[:MOST_NAMES]) + (b" .." if len(names) > MOST_NAMES else b"")
 
 
+def of_day(word: bytes, stored: List[Stored]) -> List[Stored]:
+    """The snapshot of a day, by its date; fails where there are several."""
+    found = [it for it in stored if it.name.startswith(word + b"T")] if ONE_DAY.fullmatch(word) else []
+    if len(found) > 1:
+        raise Failure(word + b": has several snapshots; name one: " + few(found))
+    return found
+
+
 def named(word: bytes) -> Stored:
-    """The snapshot that a word names: one of the store, or any folder."""
+    """The snapshot that a word names: one of the store, also by its day, or any folder."""
     is_path = b"/" in word or word in (b".", b"..")
-    found = [it for it in snapshots_in(place()) if it.name == word] if not is_path else []
+    stored = snapshots_in(place()) if not is_path else []
+    found = [it for it in stored if it.name == word] or of_day(word, stored)
     if found and found[0].fault:
         raise Failure(found[0].folder + b": " + found[0].fault)
     if not found and not is_path and not os.path.isdir(word):
@@ -215,6 +225,33 @@ def chosen(given: Optional[str]) -> Stored:
     return named(word) if word else newest()
 
 
+def is_none_named(given: Optional[str]) -> bool:
+    """Whether neither -s nor the environment names a snapshot."""
+    return given is None and not os.environb.get(SNAPSHOT, b"")
+
+
+def before(stored: Stored) -> Stored:
+    """The whole snapshot of this host before another one."""
+    taken = stored.taken()
+    found = [it for it in whole_of_this_host(snapshots_in(place()))
+             if it.folder != stored.folder and (taken is None or (it.taken() or 0) <= taken)]
+    if not found:
+        raise Failure(place() + b": has no older snapshot of this host than %s; name one with -s" % stored.name)
+    return found[-1]
+
+
+def check_older(old: Stored, new: Stored) -> None:
+    """Fails unless one snapshot is older than another one, of the same host where both say so."""
+    if os.path.samefile(old.folder, new.folder):
+        others = [it for it in whole_of_this_host(snapshots_in(place())) if not os.path.samefile(it.folder, new.folder)]
+        instead = b"; older ones, for -s: " + few(others) if others else b"; the store has no other one"
+        raise Failure(old.name + b": is the newest snapshot, and the older one too" + instead)
+    if (old.taken() or 0) > (new.taken() or old.taken() or 0):
+        raise Failure(old.name + b": is newer than " + new.name)
+    if meta.UNKNOWN not in (old.about, new.about) and old.about.host != new.about.host:
+        raise Failure(old.name + b": is of the host %s, and %s of %s" % (old.about.host, new.name, new.about.host))
+
+
 def notes(stored: Stored) -> Iterator[bytes]:
     """What is said of a snapshot before it is used."""
     age = stored.age()
@@ -224,12 +261,12 @@ def notes(stored: Stored) -> Iterator[bytes]:
         yield b"the snapshot %s is of the host %s, not of this one" % (stored.name, stored.about.host)
 
 
-def check_paths(stored: Stored, words: List[bytes]) -> None:
-    """Fails for a path that the snapshot does not have; says what it has, and which snapshots have the path."""
+def check_paths(stored: Stored, words: List[bytes], option: bytes = b"-s") -> None:
+    """Fails for a path that the snapshot does not have; says what it has, and which snapshots, for an option, have the path."""
     for word in words:
         if not word or stored.has(word) is not False:
             continue
         others = [it for it in snapshots_in(place()) if not it.fault and it.has(word)]
-        instead = b"; these have it, for -s: " + few(others) if others else b"; to record it: facl snapshot " + word
+        instead = b"; these have it, for %s: " % option + few(others) if others else b"; to record it: facl snapshot " + word
         tops = b", ".join(map(live_name, map(read_path, stored.about.folders)))
         raise Failure(word + b": is not in the snapshot %s, which has " % stored.name + tops + instead)

@@ -14,10 +14,12 @@ ANSWERED = ("program", "acl5")
 CHOSEN = ("snapshot", *ANSWERED, "quiet")
 PEOPLE = ("all_users", "with_root", "alone")
 PRINTED = ("json", "tsv", "no_pager")
+PLANNED = ("with_root", "alone", "full", "keep_going", "readers", "json", "output")
 RECORDED = ("exclude", "cross_file_systems", "users", "readers")
 RECORDING, ASKING, CHANGING, SHOWING = "Record", "Ask", "Change", "Show"
 OF_PARTS = ("questions.audit.command", "questions.check.command", "verbs.why")  # And facl diff, which chooses two.
 UNCHANGED = "nothing was changed"
+NO_PLAN = "no plan was written"
 NO_SNAPSHOT = "the snapshot that was begun is removed"
 
 
@@ -129,8 +131,22 @@ VERBS: Tuple[Verb, ...] = (
     Verb("plan", (Operand("EDITS", "a file of edits, or - for standard input", FILE, "*"),),
          "Says what edits would change, and for whom, and writes a plan of them.",
          (*CHOSEN, "with_root", "alone", "edit", "full", "keep_going", "readers", "json", "output"), "plan.command",
-         "--plan=@output -- @folder @scripts", CHANGING, prepare=prepare.plan, goes_on=True,
-         stopped="no plan was written"),
+         "--plan=@output -- @folder @scripts", CHANGING, prepare=prepare.plan, goes_on=True, stopped=NO_PLAN),
+    Verb("restore", (Operand("FOLDER", "what gets its older owners and ACLs back, with all below it", PATH),),
+         "Plans to give a folder the owners, groups, flags and ACLs that it has in an older snapshot.",
+         (*CHOSEN, "now", *PLANNED), "plan.command", "--plan=@output -- @folder @scripts", CHANGING, prepare=prepare.restore,
+         goes_on=True, stopped=NO_PLAN),
+    Verb("move-group", (Operand("FOLDER", "where, with all below it", PATH),
+                        Operand("OLDGROUP", "the group that loses what it has there, by name or id", GROUP),
+                        Operand("NEWGROUP", "the group that gets it", GROUP)),
+         "Plans to give what a group owns in a folder, and its entries in ACLs, to another group.",
+         (*CHOSEN, *PLANNED), "plan.command", "--plan=@output -- @folder @scripts", CHANGING, prepare=prepare.move_group,
+         goes_on=True, stopped=NO_PLAN),
+    Verb("open", (A_FILE, Operand("USER", "a user by name or id", USER),
+                  Operand("PERMS", "read, write, enter, or letters of rwx; commas between several")),
+         "Plans the fewest entries by which a user may do something with a file, and get to it.",
+         (*CHOSEN, *PLANNED), "plan.command", "--plan=@output -- @folder @scripts", CHANGING, prepare=prepare.open_file,
+         goes_on=True, stopped=NO_PLAN),
     Verb("apply", (Operand("PLAN", "the folder that `facl plan` wrote", FILE),),
          "Gives the files of a plan their new owners, groups and ACLs; all of them, or none.",
          ("dry_run", "drop_capabilities"), "apply.command", "--dry-run?dry_run -- @plan", CHANGING,
@@ -179,9 +195,9 @@ MEANT: Dict[str, str] = {
     "explain": "why", "names": "files", "owner": "files", "delete": "who-removes", "remove": "who-removes",
     "rm": "who-removes",
     "compare": "diff", "changes": "diff", "find": "audit", "findings": "audit", "fix": "audit fix", "mend": "audit fix",
-    "test": "check", "edit": "plan", "restore": "undo", "revert": "undo", "rollback": "undo", "prompt": "ask",
+    "test": "check", "edit": "plan", "revert": "undo", "rollback": "undo", "prompt": "ask",
     "record": "snapshot",
-    "html": "page", "man": "help",
+    "html": "page", "man": "help", "grant": "open", "allow": "open", "chgrp": "move-group",
 }
 
 

@@ -3,38 +3,15 @@ from __future__ import annotations
 
 from typing import Dict, Iterable, List, NamedTuple, Set, Tuple
 
-from ...base.folders import folder_of
-from ...base.linux import Identity
 from ...base.names import sorting_key
 from ...model import split_tree
-from ...model.snapshot import nanoseconds
+from ...model.snapshot import NO_BOOT, Inodes, read_some
 from .states import Pair, State
-
-NO_BOOT = b"-"  # Of a system that does not say since when it runs.
 
 
 class Moved(NamedTuple):
     old: bytes  # The paths.
     new: bytes
-
-
-class Inodes(NamedTuple):
-    """Which files some paths are, by the file `inodes` of a snapshot."""
-
-    boot: bytes
-    files: Dict[bytes, Identity]
-
-
-def read_some(folder: bytes, paths: Set[bytes]) -> Inodes:
-    """What is known of some paths; nothing where the snapshot has no inodes."""
-    records = folder_of(folder).optional(b"inodes").split(b"\0")
-    found: Dict[bytes, Identity] = {}
-    for record in records[1:-1]:
-        fields = record.split(b" ", 3)
-        path = fields[-1].strip(b"/")
-        if path in paths and len(fields) == 4 and fields[0].isdigit() and fields[1].isdigit():
-            found[path] = Identity(int(fields[0]), int(fields[1]), nanoseconds(fields[2]))
-    return Inodes(records[0].partition(b" ")[2] or NO_BOOT, found)
 
 
 def read_all(state: State, paths: Set[bytes]) -> Inodes:
