@@ -11,10 +11,10 @@ from ..base.names import directories_above, file_word, path_word, plain_word, wr
 from ..base.user_tools import User
 from ..model.entries import MASK, OWNER_KEY, Entries, entries_of, granted_by, perms, read_record
 from ..model.everybody import World
-from ..model.rights import gains_of
 from ..model.label_answers import ask_records
 from ..model.marks import NO_WRITING, about, marks_of
 from ..model.records import File, Files, asks_as_directory, list_slices, list_words, write_records
+from ..model.rights import gains_of
 from ..model.rules_of_lists import entry_that_grants, grants_search
 from ..model.snapshot import read_links
 from ..program.protocol import CAN, ENTRIES_OF, GAINS, GAINS_ALONG_PATHS, LIST_NUMBERS, RESTORE
@@ -90,7 +90,7 @@ def edit_of(wanted: Wanted, path: bytes, body: bytes, entries: Entries, letters:
     if entries[0].key == OWNER_KEY or set(needed) <= set(mask):
         return edit
     with_mask = edit + b",m::" + perms(mask + needed)
-    if not record.has_mask():
+    if not record.permissions(MASK):
         return with_mask
     line = line_of(with_mask, [file_word(path, wanted.world.is_whole)])
     raise Failure(b"%s: its mask is %s, and %s needs %s there; nothing within the mask grants that. This widens it, for all whom the "
@@ -137,7 +137,7 @@ def try_lines(wanted: Wanted, files: Files, edits: Dict[bytes, bytes], lines: Li
     expect(wanted.is_granted_there(), b"do not grant it")
     new = records_of(wanted, [*edits])
     for path in edits:
-        masks = [it.permissions(MASK) if it.has_mask() else b"" for it in map(read_record, (files[path].body, new[path].body))]
+        masks = [read_record(it.body).permissions(MASK) for it in (files[path], new[path])]
         expect(masks[0] in (b"", masks[1]), b"change the mask of " + wanted.world.name_of(path))
         give(wanted, {path: files[path]})
         expect(not wanted.is_granted_there(), b"are not needed on " + wanted.world.name_of(path))

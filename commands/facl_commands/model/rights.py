@@ -65,17 +65,22 @@ def order_of(name: bytes) -> bytes:
     return sorting_key(path_of(name))
 
 
-def ask_gains(session: Session, is_alone: bool) -> List[Gain]:
-    """Asks a session what its lines changed in who may do what. Who is granted the request for nothing alone, or not even that,
-    may do nothing: lines that differ in this are one gain."""
+def gains_of(lines: Iterable[bytes]) -> List[Gain]:
+    """What lines of `gains` say. Who is granted the request for nothing alone, or not even that, may do nothing: lines that differ in
+    this are one gain."""
     found: Dict[Tuple[bytes, str, str], Gain] = {}
-    for line in session.ask_accepted(GAINS if is_alone else GAINS_ALONG_PATHS).lines():
+    for line in lines:
         *sides, files, user, first = line.split(b" ", 4)
         old, new = (ABSENT if side == NOT_THERE else GRANTED[int(side, 16)] for side in sides)
         if is_change(old, new):
             known = found.get((user, old, new), Gain(user, old, new, 0, first))
             found[user, old, new] = known._replace(files=known.files + int(files), first=min(known.first, first, key=order_of))
     return list(found.values())
+
+
+def ask_gains(session: Session, is_alone: bool) -> List[Gain]:
+    """Asks a session what its lines changed in who may do what."""
+    return gains_of(session.ask_accepted(GAINS if is_alone else GAINS_ALONG_PATHS).lines())
 
 
 # --- by files
