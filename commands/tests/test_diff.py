@@ -148,8 +148,8 @@ users: 1 new (yves), 1 gone (ben)
         self.edit("after/dump", (b"# file: /srv/share/\n# owner: 1001\n# group: 100\nuser::rwx\ngroup::r-x\nother::---",
                                  b"# file: /srv/share/\n# owner: 1001\n# group: 100\nuser::rwx\ngroup::r-x\nother::--x"))
         self.expect(self.diff(), 1, b"""\
-WHO                             WHAT                                          MORE  GAINED  LESS  LOST  FIRST
-everybody else and mara, guest  2 others' entry changed, 3 /srv/share opened     5  rwx        0        /srv/share
+WHO                             WHAT                                MORE  GAINED  LESS  LOST  FIRST
+everybody else and mara, guest  2 others' entry changed and 1 more     5  rwx        0        /srv/share
 files: 2 with another owner, group, flags or ACL
 """)
         self.expect(self.diff("--full"), 1, b"""\

@@ -3,6 +3,7 @@ from __future__ import annotations
 
 import os
 import random
+import shutil
 import sys
 import unittest
 from typing import Any, Callable, Dict, List, Tuple
@@ -226,10 +227,58 @@ class Week(EventCase):
             "memberships: 1 new"])
         self.assertEqual(lines[2].split()[:4], ["u07", "joined", "finance", "618"])
         self.assertIn("  moved to /srv/archive  ", lines[4])
-        self.assertIn("  40 /srv/legal closed, 1 others' entry changed  ", lines[7])
+        self.assertIn("  40 /srv/legal closed and 1 more  ", lines[7])
         done = self.run_command("facl-diff", ["--page", "page.html", "monday", "friday"])
         self.assertIn(b'<p id="worse">Worse since 2026-11-27: everybody (25) may write 1 file (/srv/public); '
                       b"u07 joined finance and may read 618 files more.</p>", self.read("page.html"))
+
+
+class Imports(EventCase):
+    """A text of `getfacl -R srv/a srv/b` of the small tree, as `facl import` keeps it, beside a snapshot of /srv."""
+
+    def imported(self, name: str, begin: bytes, world: World) -> None:
+        """Writes the import; its names begin so."""
+        world.write(self.path("whole"))
+        os.mkdir(self.path(name), 0o700)
+        for text in ("passwd", "group"):
+            self.write(name + "/" + text, self.read("whole/" + text))
+        records = [it for it in self.read("whole/dump").split(b"\n\n") if it.startswith((b"# file: /srv/a", b"# file: /srv/b"))]
+        self.write(name + "/dump", b"".join(it.replace(b"# file: /", b"# file: " + begin) + b"\n\n" for it in records))
+        shutil.rmtree(self.path("whole"))
+
+    def test_beside_a_snapshot(self) -> None:
+        world = small()
+        give(world, b"srv/a/1", OWN.replace(b"group::r--", b"group::rw-"))
+        world.make(b"srv/c/new")
+        world.write(self.path("new"))
+        self.imported("relative", b"", small())
+        self.imported("rooted", b"/", small())
+        for name in ("relative", "rooted"):
+            self.expect(self.run_command("facl-diff", [name, "new"]), 1, b"""\
+WHO   WHAT                 MORE  GAINED  LESS  LOST  FIRST
+bert  group entry changed     1  -w-        0        /srv/a/1
+files: 1 with another owner, group, flags or ACL
+""")
+
+    def test_directories_above_are_the_same(self) -> None:
+        world = small()
+        give(world, b"srv", SHUT)
+        world.write(self.path("new"))
+        self.imported("relative", b"", small())
+        self.expect(self.run_command("facl-diff", ["relative", "new"]), 0, b"nothing differs: the same users, groups of users, files and ACLs\n")
+
+    def test_two_imports(self) -> None:
+        later = small()
+        join(later, "carl", "hr")
+        self.imported("relative", b"", small())
+        self.imported("rooted", b"/", later)
+        done = self.run_command("facl-diff", ["relative", "rooted"])
+        self.assertEqual((done.status, done.out), (1, b"""\
+WHO   WHAT       MORE  GAINED  LESS  LOST  FIRST
+carl  joined hr    10  r--        0        srv/a/1
+memberships: 1 new
+"""))
+        self.assertEqual(done.messages.count(b"\n"), 1)
 
 
 class Worse(EventCase):

@@ -26,7 +26,7 @@ MOST_NAMES = 8  # In a row for a person,
 FEW_NAMES = 2  # beside everybody else,
 MOST_FOLDERS = 3  # and in a warning.
 MOST_REASONS = 2  # In a row.
-LONGEST = 100  # Columns of a line for a person.
+LONGEST, ROOM_OF_WHAT = 100, 40  # Columns of a line for a person, and of what happened.
 
 
 class Compared(NamedTuple):
@@ -77,11 +77,13 @@ def who_of_event(event: Event, everybody: AllUsers) -> bytes:
     return and_more(users)
 
 
-def reasons_text(reasons: Sequence[Reason], files: int) -> bytes:
-    """The reasons, each with the number of its files where others are beside."""
+def reasons_text(reasons: Sequence[Reason], files: int, room: int = LONGEST) -> bytes:
+    """The first reasons, as far as there is room, each with the number of its files where others are beside."""
     parts = [it.why if it.files == files else b"%d %s" % (it.files, it.why) for it in reasons]
-    rest = len(parts) - MOST_REASONS
-    return b", ".join(parts[:MOST_REASONS]) + (b" and %d more" % rest if rest > 0 else b"")
+    both = b", ".join(parts[:MOST_REASONS])
+    most = MOST_REASONS if len(both) <= room else 1
+    rest = len(parts) - most
+    return b", ".join(parts[:most]) + (b" and %d more" % rest if rest > 0 else b"")
 
 
 def shown_reasons(event: Event) -> List[Reason]:
@@ -102,7 +104,7 @@ def fields_of_event(event: Event, who: bytes, what: bytes, first: bytes) -> List
 def row_of_event(compared: Compared, event: Event) -> List[bytes]:
     """The row for a person."""
     reasons = shown_reasons(event)
-    what = reasons_text(reasons, event.files if reasons == event.reasons else sum(it.files for it in reasons))
+    what = reasons_text(reasons, event.files if reasons == event.reasons else sum(it.files for it in reasons), ROOM_OF_WHAT)
     first = compared.first_of(event if reasons == event.reasons else reasons[0])
     return fields_of_event(event, who_of_event(event, compared.everybody), what, first)
 
