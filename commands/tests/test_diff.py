@@ -19,13 +19,14 @@ sys.path.insert(0, COMMANDS)
 
 from facl_commands.base.names import path_order  # noqa: E402
 from facl_commands.questions.diff.reasons import decided_by, words_of_list  # noqa: E402
-from facl_commands.questions.diff.states import Pair, RecordReader, pairs_of  # noqa: E402
+from facl_commands.questions.diff.states import Pair, RecordReader, walk  # noqa: E402
 
 PAIR = ("before", "after")
 NOTHING = b"nothing differs: the same users, groups of users, files and ACLs\n"
 NEW_FILE = b"# owner: 1001\n# group: 100\nuser::rw-\ngroup::r--\nother::---\n\n"
 ONE, NOTES = b"# file: /srv/share/one\n", b"# file: /srv/share/notes\n"
 META = b"host %s\ndate 2026-11-%dT03:10:00Z\nfolder %s\n"
+EVENT_TITLES = "KIND\tWHO\tWHAT\tMORE\tGAINED\tLESS\tLOST\tFIRST"
 SLOW = "#!/bin/sh\necho >>'%s'\nexec sleep 60\n"
 
 
@@ -49,11 +50,17 @@ class DiffCase(Case):
         return self.run_command("facl-diff", [*PAIR, *folders])
 
     def rows(self, *options: str) -> List[Tuple[str, ...]]:
-        """The rows for a script, without the titles: before, after, user, files, first, why."""
-        done = self.diff("--tsv", *options)
+        """The rows for a script of --full, without the titles: before, after, user, files, first, why."""
+        done = self.diff("--tsv", "--full", *options)
         self.assertEqual(done.status, 1, done.messages)
         lines = done.out.decode("utf-8", "backslashreplace").splitlines()
         self.assertEqual(lines[0], "BEFORE\tAFTER\tWHO\tFILES\tFIRST\tWHY")
+        return [tuple(line.split("\t")) for line in lines[1:]]
+
+    def events(self, *options: str) -> List[Tuple[str, ...]]:
+        """The rows of events for a script, without the titles: kind, users, what, more, gained, less, lost, first."""
+        lines = self.diff("--tsv", *options).out.decode("utf-8", "backslashreplace").splitlines()
+        self.assertEqual(lines[0], EVENT_TITLES)
         return [tuple(line.split("\t")) for line in lines[1:]]
 
     def report(self, *words: str) -> Dict[str, Any]:
@@ -68,39 +75,42 @@ class People(DiffCase):
         # staff has r-x on srv/share, and r-- on nine files there.
         self.edit("after/group", (b"staff:x:100:", b"staff:x:100:guest"))
         self.expect(self.diff(), 1, b"""\
+WHO    WHAT          MORE  GAINED  LESS  LOST  FIRST
+guest  joined staff    10  r-x        0        /srv/share
+memberships: 1 new
+""")
+        self.expect(self.diff("--full"), 1, b"""\
 BEFORE  AFTER  WHO    FILES  FIRST          WHY
-none    r--    guest      9  /srv/share/-x  new member of staff
-none    r-x    guest      1  /srv/share     new member of staff
+none    r--    guest      9  /srv/share/-x  joined staff
+none    r-x    guest      1  /srv/share     joined staff
 memberships: 1 new
 """)
 
     def test_a_user_who_left_a_group(self) -> None:
         self.edit("before/group", (b"staff:x:100:", b"staff:x:100:guest"))
         self.assertEqual(self.rows(), [
-            ("r--", "none", "guest", "9", "/srv/share/-x", "no longer member of staff"),
-            ("r-x", "none", "guest", "1", "/srv/share", "no longer member of staff"),
+            ("r--", "none", "guest", "9", "/srv/share/-x", "left staff"),
+            ("r-x", "none", "guest", "1", "/srv/share", "left staff"),
         ])
 
     def test_another_primary_group(self) -> None:
         # mara owns drafts, which the path hides until she is of staff; the row of notes is her own entry under the mask.
         self.edit("after/passwd", (b"1003:200:", b"1003:100:"))
         self.assertEqual(self.rows(), [
-            ("none", "rwx", "mara", "1", "/srv/share/drafts", "new member of staff"),
-            ("none", "rw-", "mara", "1", "/srv/share/drafts/logo.svg", "new member of staff"),
-            ("none", "r--", "mara", "9", "/srv/share/-x", "new member of staff"),
-            ("none", "r-x", "mara", "1", "/srv/share", "new member of staff"),
+            ("none", "rwx", "mara", "1", "/srv/share/drafts", "joined staff"),
+            ("none", "rw-", "mara", "1", "/srv/share/drafts/logo.svg", "joined staff"),
+            ("none", "r--", "mara", "9", "/srv/share/-x", "joined staff"),
+            ("none", "r-x", "mara", "1", "/srv/share", "joined staff"),
         ])
-        self.assertEqual(self.rows("--file-alone"), [("none", "r--", "mara", "8", "/srv/share/-x", "new member of staff"),
-                                                     ("none", "r-x", "mara", "1", "/srv/share", "new member of staff")])
+        self.assertEqual(self.rows("--file-alone"), [("none", "r--", "mara", "8", "/srv/share/-x", "joined staff"),
+                                                     ("none", "r-x", "mara", "1", "/srv/share", "joined staff")])
 
     def test_users_who_come_and_go(self) -> None:
         self.edit("after/passwd", (b"ben:x:1002:100:Ben Kaya:/home/ben:/bin/sh\n", b"yves:x:1050:100:::\n"))
         self.expect(self.diff(), 1, b"""\
-BEFORE  AFTER   WHO   FILES  FIRST          WHY
-absent  r--     yves      9  /srv/share/-x  new user
-absent  r-x     yves      3  /              new user
-r--     absent  ben       9  /srv/share/-x  user removed
-r-x     absent  ben       3  /              user removed
+WHO   WHAT          MORE  GAINED  LESS  LOST  FIRST
+ben   user removed     0            12  r-x   /
+yves  new user        12  r-x        0        /
 users: 1 new (yves), 1 gone (ben)
 """)
 
@@ -115,7 +125,7 @@ users: 1 new (yves), 1 gone (ben)
         report = self.report()
         self.assertEqual(report["answered_by"], "index")
         self.assertEqual(report["changes"], [{"before": "absent", "after": "r-x", "users": ["twin"], "count": 2, "path": "/",
-                                              "why": "new user"}])
+                                              "reasons": [{"why": "new user", "count": 2, "path": "/"}]}])
         self.assertEqual(report["users"], {"new": ["twin"], "removed": [], "other_id": []})
 
     def test_two_users_of_one_id_who_were_there(self) -> None:
@@ -130,21 +140,27 @@ users: 1 new (yves), 1 gone (ben)
         self.edit("after/dump", (ONE + NEW_FILE, ONE + NEW_FILE.replace(b"group: 100", b"group: 401")))
         report = self.report("--file-alone")
         self.assertEqual(report["answered_by"], "gains")
-        self.assertEqual([(row["users"], row["why"]) for row in report["changes"]], [(["guest"], None)])
+        self.assertEqual([(row["users"], row["reasons"]) for row in report["changes"]],
+                         [(["guest"], [{"why": "group changed", "count": 1, "path": "/srv/share/one"}])])
 
     def test_people_of_one_change_are_on_one_line(self) -> None:
         self.edit("after/dump", (ONE + NEW_FILE, ONE + NEW_FILE.replace(b"other::---", b"other::r--")))
         self.edit("after/dump", (b"# file: /srv/share/\n# owner: 1001\n# group: 100\nuser::rwx\ngroup::r-x\nother::---",
                                  b"# file: /srv/share/\n# owner: 1001\n# group: 100\nuser::rwx\ngroup::r-x\nother::--x"))
         self.expect(self.diff(), 1, b"""\
+WHO                             WHAT                                MORE  GAINED  LESS  LOST  FIRST
+everybody else and mara, guest  2 others' entry changed and 1 more     5  rwx        0        /srv/share
+files: 2 with another owner, group, flags or ACL
+""")
+        self.expect(self.diff("--full"), 1, b"""\
 BEFORE  AFTER  WHO             FILES  FIRST                       WHY
 none    --x    everybody else      1  /srv/share                  others' entry changed
-none    r--    everybody else      1  /srv/share/one              /srv/share opened, others' entry changed
+none    r--    everybody else      1  /srv/share/one              others' entry changed
 none    rwx    mara                1  /srv/share/drafts           /srv/share opened
 none    rw-    mara                1  /srv/share/drafts/logo.svg  /srv/share opened
-none    r--    mara                2  /srv/share/notes            /srv/share opened
+none    r--    mara                2  /srv/share/notes            1 /srv/share opened, 1 others' entry changed
 none    --x    mara guest          1  /srv/share                  others' entry changed
-none    r--    guest               1  /srv/share/one              /srv/share opened, others' entry changed
+none    r--    guest               1  /srv/share/one              others' entry changed
 files: 2 with another owner, group, flags or ACL
 """)
 
@@ -173,31 +189,32 @@ class EverybodyElse(DiffCase):
         """All users of the snapshots, and everybody else."""
         self.edit("after/dump", (self.SRV % b"r-x", self.SRV % b"rwx"))
         self.expect(self.diff(), 1, b"""\
-BEFORE  AFTER  WHO            FILES  FIRST  WHY
-r-x     rwx    everybody (4)      1  /srv   others' entry changed
+WHO            WHAT                   MORE  GAINED  LESS  LOST  FIRST
+everybody (4)  others' entry changed     1  -w-        0        /srv
 files: 1 with another owner, group, flags or ACL
 """)
         row = ("r-x", "rwx", "1", "/srv", "others' entry changed")
         self.assertEqual(self.rows(), [(*row[:2], user, *row[2:]) for user in ("everybody else", "ines", "ben", "mara", "guest")])
         changes = [{"before": "r-x", "after": "rwx", "users": ["everybody else", "ines", "ben", "mara", "guest"], "count": 1,
-                    "path": "/srv", "why": "others' entry changed"}]
+                    "path": "/srv", "reasons": [{"why": "others' entry changed", "count": 1, "path": "/srv"}]}]
         self.assertEqual(self.report()["changes"], changes)
         self.assertEqual((self.report("/srv")["changes"], self.report("/srv")["answered_by"]), (changes, "index"))
 
     def test_all_users_of_the_snapshots_alone(self) -> None:
         self.edit("after/dump", (self.SRV % b"r-x", self.named(b"rwx", b"r-x")))
-        self.assertIn(b"\nr-x     rwx    all known users (4)      1  /srv   user entry added\n", self.diff().out)
+        self.assertIn(b"\nall known users (4)  user entry added     1  -w-        0        /srv\n", self.diff().out)
+        self.assertIn(b"\nr-x     rwx    all known users (4)      1  /srv   user entry added\n", self.diff("--full").out)
         self.assertEqual([row[2] for row in self.rows()], ["ines", "ben", "mara", "guest"])
 
     def test_everybody_else_alone(self) -> None:
         for name, others in (("before", b"r-x"), ("after", b"rwx")):
             self.edit(name + "/dump", (self.SRV % b"r-x", self.named(b"r-x", others)))
         self.expect(self.diff(), 1, b"""\
-BEFORE  AFTER  WHO             FILES  FIRST  WHY
-r-x     rwx    everybody else      1  /srv   others' entry changed
+WHO             WHAT                   MORE  GAINED  LESS  LOST  FIRST
+everybody else  others' entry changed     1  -w-        0        /srv
 files: 1 with another owner, group, flags or ACL
 """)
-        self.expect(self.run_command("facl-diff", ["--tsv", "after", "before"]), 1,
+        self.expect(self.run_command("facl-diff", ["--tsv", "--full", "after", "before"]), 1,
                     b"BEFORE\tAFTER\tWHO\tFILES\tFIRST\tWHY\nrwx\tr-x\teverybody else\t1\t/srv\tothers' entry changed\n")
 
     def test_nothing_of_everybody_else(self) -> None:
@@ -219,7 +236,7 @@ files: 1 with another owner, group, flags or ACL
     def test_new_and_removed_files(self) -> None:
         made = b"# file: /srv/new\n" + NEW_FILE.replace(b"other::---", b"other::r--")
         self.write("after/dump", self.read("after/dump").replace(b"# file: /srv/share/\n", made + b"# file: /srv/share/\n"))
-        new, gone = (self.run_command("facl-diff", ["--tsv", *pair]).out.decode().splitlines() for pair in (PAIR, PAIR[::-1]))
+        new, gone = (self.run_command("facl-diff", ["--tsv", "--full", *pair]).out.decode().splitlines() for pair in (PAIR, PAIR[::-1]))
         self.assertEqual(new[1:], ["absent\tr--\teverybody else\t1\t/srv/new\tnew file", "absent\trw-\tines\t1\t/srv/new\tnew file",
                                    *("absent\tr--\t%s\t1\t/srv/new\tnew file" % user for user in ("ben", "mara", "guest"))])
         self.assertEqual([line.split("\t")[2] for line in gone[1:]], ["everybody else", "ben", "mara", "guest", "ines"])
@@ -247,11 +264,9 @@ class Files(DiffCase):
     def test_new_and_removed_files(self) -> None:
         self.edit("after/dump", (b"# file: /srv/share/it's\n", b"# file: /srv/share/neu.xlsx\n"))
         self.expect(self.diff(), 1, b"""\
-BEFORE  AFTER   WHO   FILES  FIRST                WHY
-absent  rw-     ines      1  /srv/share/neu.xlsx  new file
-absent  r--     ben       1  /srv/share/neu.xlsx  new file
-rw-     absent  ines      1  /srv/share/it's      removed
-r--     absent  ben       1  /srv/share/it's      removed
+WHO        WHAT      MORE  GAINED  LESS  LOST  FIRST
+ines, ben  new file     1  rw-        0        /srv/share/neu.xlsx
+ines, ben  removed      0             1  rw-   /srv/share/it's
 files: 1 new, 1 gone
 """)
 
@@ -264,8 +279,13 @@ files: 1 new, 1 gone
         self.write("before/inodes", b"boot 1\0" + row % (7, b"it's") + row % (8, b"one"))
         self.write("after/inodes", b"boot 1\0" + row % (7, b"its") + row % (8, b"uno"))
         rows = self.rows()
-        self.assertIn(("r--", "absent", "ben", "2", "/srv/share/it's", "moved to /srv/share/its"), rows)
-        self.assertIn(("absent", "rw-", "ines", "2", "/srv/share/its", "moved from /srv/share/it's"), rows)
+        self.assertIn(("r--", "absent", "ben", "2", "/srv/share/it's", "1 moved to /srv/share/its, 1 removed"), rows)
+        self.assertIn(("absent", "rw-", "ines", "2", "/srv/share/its", "1 moved from /srv/share/it's, 1 new file"), rows)
+        self.assertEqual(self.events(), [
+            ("moved", "ines,ben", "1 moved to /srv/share/its,1 moved from /srv/share/it's", "1", "rw-", "1", "rw-", "/srv/share/it's"),
+            ("new", "ines,ben", "1 new file", "1", "rw-", "0", "", "/srv/share/uno"),
+            ("removed", "ines,ben", "1 removed", "0", "", "1", "rw-", "/srv/share/one")])
+        self.assertIn(b"\nines, ben  moved to /srv/share/its     1  rw-        1  rw-   /srv/share/it's\n", self.diff().out)
         # one is one of two names of a file.
         report = self.report()
         self.assertEqual(report["files"], {"changed": 0, "new": 2, "removed": 2,
@@ -299,10 +319,11 @@ files: 1 new, 1 gone
         self.edit("after/group", (b"staff:x:100:", b"staff:x:100:1003,-a b\\,=c\xff"))
         self.edit("after/dump", (b"# file: /srv/share/it's\n", b"# file: /srv/share/\\033[1m\t\n"))
         self.assertEqual(self.report()["answered_by"], "gains")
-        done = self.diff("--no-pager")
+        done = self.diff("--no-pager", "--full")
         self.assertIn(b"none    r--     1003 -a\\040b\\134 =c\\377          8  /srv/share/-x ", done.out)
         self.assertNotIn(b"\x1b", done.out)
-        self.assertEqual(len({line.count(b"\t") for line in self.diff("--tsv").out.split(b"\n")[:-1]}), 1)
+        for words in (["--tsv"], ["--tsv", "--full"]):
+            self.assertEqual(len({line.count(b"\t") for line in self.diff(*words).out.split(b"\n")[:-1]}), 1)
 
     def test_folders(self) -> None:
         self.edit("after/group", (b"staff:x:100:", b"staff:x:100:guest"))
@@ -310,8 +331,8 @@ files: 1 new, 1 gone
         self.expect(self.below("/srv/share/drafts"), 0,
                     b"nobody gained or lost anything; files: 1 new, 1 gone; memberships: 1 new\n")
         self.expect(self.below("srv/share/notes", "/srv/share/two/"), 1, b"""\
-BEFORE  AFTER  WHO    FILES  FIRST             WHY
-none    r--    guest      2  /srv/share/notes  new member of staff
+WHO    WHAT          MORE  GAINED  LESS  LOST  FIRST
+guest  joined staff     2  r--        0        /srv/share/notes
 memberships: 1 new
 """)
         # What is recorded at one of the times.
@@ -360,11 +381,11 @@ class Words(DiffCase):
         self.assertEqual(self.why((b"user:1003:rw-\t\t\t#effective:r--\ngroup::r--\nmask::r--\n", b"group::r--\n")),
                          [("mara", "r--", "none", "user entry gone")])
 
-    def test_nothing_is_said_where_two_things_changed(self) -> None:
+    def test_two_things_that_changed(self) -> None:
         self.edit("after/group", (b"guests:x:300:", b"guests:x:300:ben"))
         plain = ONE + NEW_FILE
         self.assertEqual(self.why((plain, plain.replace(b"group: 100", b"group: 300").replace(b"group::r--", b"group::rw-"))),
-                         [("ben", "r--", "rw-", ""), ("guest", "none", "rw-", "other group of the file")])
+                         [("ben", "r--", "rw-", "group, ACL changed"), ("guest", "none", "rw-", "other group of the file")])
 
     def test_a_directory_that_closed(self) -> None:
         self.edit("after/dump", (b"# file: /srv/share/\n# owner: 1001\n# group: 100\nuser::rwx\ngroup::r-x\n",
@@ -386,7 +407,8 @@ class Snapshots(DiffCase):
     def test_the_same(self) -> None:
         self.expect(self.diff(), 0, NOTHING)
         self.expect(self.run_command("facl-diff", ["before", "before"]), 0, NOTHING)
-        self.expect(self.diff("--tsv"), 0, b"BEFORE\tAFTER\tWHO\tFILES\tFIRST\tWHY\n")
+        self.expect(self.diff("--tsv", "--full"), 0, b"BEFORE\tAFTER\tWHO\tFILES\tFIRST\tWHY\n")
+        self.expect(self.diff("--tsv"), 0, EVENT_TITLES.encode() + b"\n")
 
     def test_a_dump_with_names(self) -> None:
         text = re.sub(rb"^# owner: 1001$", b"# owner: ines", self.read("after/dump"), flags=re.MULTILINE)
@@ -472,16 +494,19 @@ facl-diff: warning: left out of before alone as another file system, so what is 
         self.write("before/meta", META % (b"srva", 26, b"/srv/share"))
         self.edit("after/group", (b"staff:x:100:", b"staff:x:100:guest"))
         self.assertEqual(self.report(), {
-            "schema": "facl-diff/1", "version": "0", "judge": "linux",
+            "schema": "facl-diff/2", "version": "0", "judge": "linux",
             "snapshot": {"name": "after", "path": "after", "host": None, "date": None, "folders": [], "excludes": [], "users_asked_for": None},
             "options": {"along_paths": True, "all_users": False, "with_root": False},
             "before": {"name": "before", "path": "before", "host": "srva", "date": "2026-11-26T03:10:00Z", "folders": ["/srv/share"],
                        "excludes": [], "users_asked_for": None},
             "folders": [], "answered_by": "gains",
+            "events": [{"kind": "membership", "users": ["guest"], "more": 10, "less": 0, "count": 10, "pairs": 10, "gained": "r-x",
+                        "lost": "---", "path": "/srv/share",
+                        "reasons": [{"why": "joined staff", "count": 10, "path": "/srv/share"}]}],
             "changes": [{"before": "none", "after": "r--", "users": ["guest"], "count": 9, "path": "/srv/share/-x",
-                         "why": "new member of staff"},
+                         "reasons": [{"why": "joined staff", "count": 9, "path": "/srv/share/-x"}]},
                         {"before": "none", "after": "r-x", "users": ["guest"], "count": 1, "path": "/srv/share",
-                         "why": "new member of staff"}],
+                         "reasons": [{"why": "joined staff", "count": 1, "path": "/srv/share"}]}],
             "left_out": [],
             "files": {"changed": 0, "new": 0, "removed": 0, "moved": []},
             "users": {"new": [], "removed": [], "other_id": []},
@@ -496,6 +521,7 @@ facl-diff: warning: left out of before alone as another file system, so what is 
         assert data is not None
         page = json.loads(data[1])
         self.assertEqual((page["title"], page["script"]), ("before -> after", True))
+        self.assertIn(b'<p id="worse">Worse since before: guest joined staff and may read 10 files more.</p>\n', self.read("page.html"))
         done = self.diff("--page", "page.html")
         self.assertEqual((done.status, done.out), (2, b""))
         self.assertEqual(self.run_command("facl-diff", ["--page", "new.html", *PAIR, "/srv"]).status, 2)
@@ -531,30 +557,35 @@ class Records(unittest.TestCase):
             return [b"# file: " + name for name in names]
 
         old, new = listing(b".", b"a", b"a/b", b"a b", b"c"), listing(b".", b"a/", b"a b", b"c", b"c/d")
-        pairs = {pair.path: pair for pair in self.pairs(old, new)}
+        pairs = {pair.path: pair for pair in self.walked(old, new)[0]}
         self.assertEqual(sorted(pairs), [b"a", b"a/b", b"c", b"c/d"])
         self.assertFalse(pairs[b"a"].is_of_other_kind())
         self.assertTrue(pairs[b"c"].is_of_other_kind())
-        self.assertEqual(self.pairs(old, old), [])
+        self.assertEqual(self.walked(old, old), ([], old))
 
-    def pairs(self, old: List[bytes], new: List[bytes], size: int = 1000, is_all: bool = False) -> List[Pair]:
-        """Those of listings that come so many records at once."""
+    def walked(self, old: List[bytes], new: List[bytes], size: int = 1000) -> Tuple[List[Pair], List[bytes]]:
+        """The pairs of listings that come so many records at once, and the records that are the same."""
         readers = [RecordReader(iter([it[place : place + size] for place in range(0, len(it), size)])) for it in (old, new)]
-        return list(pairs_of(readers[0], readers[1], is_all))
+        found = list(walk(readers[0], readers[1]))
+        return [it for it in found if isinstance(it, Pair)], [record for it in found if not isinstance(it, Pair) for record in it]
 
     def test_what_is_the_same_is_passed_over(self) -> None:
-        """The pairs are those among all paths that differ, also where much is the same between them."""
+        """The pairs are those among all paths that differ, also where much is the same between them; all others are told too."""
         for seed in range(60):
             chance = random.Random(seed)
             paths = sorted({b"/".join(chance.choice([b"a", b"b", b"a b", b"c-d"]) + b"%d" % chance.randrange(9)
                                       for _ in range(chance.randrange(1, 4))) for _ in range(chance.choice([5, 400]))}, key=path_order)
-            sides: List[List[bytes]] = []
+            sides: List[Dict[bytes, bytes]] = []
             for _ in range(2):
                 there = [path for path in paths if chance.random() > 0.01]
-                sides.append([b"# file: %s%s\n# owner: %d" % (path, b"/" * (chance.random() < 0.005), chance.random() < 0.01) for path in there])
-            found = self.pairs(sides[0], sides[1], chance.choice([1, 7, 50, 1000]))
-            self.assertEqual(found, [it for it in self.pairs(sides[0], sides[1], is_all=True)
-                                     if (it.old and it.old.record) != (it.new and it.new.record) or it.is_of_other_kind()], seed)
+                sides.append({path: b"# file: %s%s\n# owner: %d" % (path, b"/" * (chance.random() < 0.005), chance.random() < 0.01)
+                              for path in there})
+            pairs, same = self.walked(list(sides[0].values()), list(sides[1].values()), chance.choice([1, 7, 50, 1000]))
+            above = [{b"/".join(path.split(b"/")[:deep]) for path in side for deep in range(1, path.count(b"/") + 1)} for side in sides]
+            differ = [path for path in paths if sides[0].get(path) != sides[1].get(path) or
+                      path in sides[0] and len({path in it or side[path].split(b"\n")[0][-1:] == b"/" for it, side in zip(above, sides)}) > 1]
+            self.assertEqual([it.path for it in pairs], [path for path in differ if any(path in side for side in sides)], seed)
+            self.assertEqual(same, [record for path, record in sides[0].items() if path not in differ], seed)
 
 
 if __name__ == "__main__":

@@ -130,7 +130,7 @@ class EmptyMask(SmallTree):
         self.take_list(text)
         os.rename(self.path("small"), self.path("later"))
         self.take_list(text.replace(b"mask::---", b"mask::rw-"))
-        rows = self.rows("facl-diff", "small", "later")
+        rows = self.rows("facl-diff", "--full", "small", "later")
         self.assertEqual(sorted((*row[:3], row[5]) for row in rows), [
             (b"rw-", b"none", b"bert", b"mask changed"), (b"rw-", b"r--", b"carl", b"mask changed")])
 
@@ -141,7 +141,7 @@ class EmptyMask(SmallTree):
             False: [(b"none", b"r--", b"xaver"), (b"rw-", b"none", b"bert"), (b"rwx", b"r--", b"carl")],
             True: [(b"rw-", b"none", b"bert"), (b"rwx", b"none", b"carl")]}
         for is_acl5, wanted in changes.items():
-            rows = self.rows("facl-diff", "small", "later", is_acl5=is_acl5)
+            rows = self.rows("facl-diff", "--full", "small", "later", is_acl5=is_acl5)
             self.assertEqual(sorted(tuple(row[:3]) for row in rows), wanted)
             self.assertEqual({row[5] for row in rows}, {b"mask changed"})
 

@@ -191,11 +191,11 @@ class Changes(SplitCase):
         world = small()
         world.files[b"srv/a"] = world.files[b"srv/a"]._replace(body=OPEN.replace(b"other::r-x", b"other::---"))
         found = self.expect_files(world, 1, 0, 0)
-        rights = [(it["before"], it["after"], it["users"], it["count"], it["path"], it["why"])
+        rights = [(it["before"], it["after"], it["users"], it["count"], it["path"], [why["why"] for why in it["reasons"]])
                   for it in found["changes"]]  # type: ignore[attr-defined]
         self.assertEqual(rights, [
-            ("r-x", "none", ["everybody else", "anna", "bert", "carl", "dora"], 1, "/srv/a", "others' entry changed"),
-            ("rw-", "none", ["anna"], 5, "/srv/a/1", "/srv/a closed"), ("r--", "none", ["bert"], 5, "/srv/a/1", "/srv/a closed")])
+            ("r-x", "none", ["everybody else", "anna", "bert", "carl", "dora"], 1, "/srv/a", ["others' entry changed"]),
+            ("rw-", "none", ["anna"], 5, "/srv/a/1", ["/srv/a closed"]), ("r--", "none", ["bert"], 5, "/srv/a/1", ["/srv/a closed"])])
 
     def test_a_directory_that_became_empty(self) -> None:
         # Its list is as before, in parts and without.

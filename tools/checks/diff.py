@@ -21,7 +21,7 @@ import subprocess
 import sys
 import tempfile
 from collections import Counter
-from typing import Callable, Dict, List, Set, Tuple
+from typing import Any, Callable, Dict, List, Set, Tuple
 
 from lib.answers import components
 from lib.random_world import FIRST_GID, FIRST_UID, PERMS, World, printed
@@ -285,10 +285,28 @@ def compare(wanted: Dict[Change, Tuple[int, bytes]], words: List[str], name: str
     report = json.loads(done.stdout)
     seen[str(report["answered_by"])] += 1
     seen["changes"] += len(wanted)
-    seen["words"] += sum(len(row["users"]) for row in report["changes"] if row["why"])
+    seen["events"] += len(report["events"])
     found = answered(report)
     others = [key for key in {**wanted, **found} if wanted.get(key) != found.get(key)]
-    return [f"{name}: {key}: wanted {wanted.get(key)}, found {found.get(key)}" for key in others[:3]]
+    return [f"{name}: {fault}" for fault in events_beside_changes(report)] + [
+        f"{name}: {key}: wanted {wanted.get(key)}, found {found.get(key)}" for key in others[:3]]
+
+
+def events_beside_changes(report: Dict[str, Any]) -> List[str]:
+    """What is wrong where the events are not all that the changes are, each pair of a user and a file once."""
+    events, changes = report["events"], report["changes"]
+    pairs = [sum(it["pairs"] for it in events), sum(it["count"] * len(it["users"]) for it in changes)]
+    users = [{user for it in its for user in it["users"]} for its in (events, changes)]
+    faults = [f"the events have {pairs[0]} pairs, the changes {pairs[1]}"] * (pairs[0] != pairs[1])
+    faults += ["the events are about other users"] * (users[0] != users[1])
+    for it in changes:
+        if sum(why["count"] for why in it["reasons"]) != it["count"]:
+            faults.append(f"{it}: the reasons are not of all its files")
+    for it in events:
+        most = max(it["more"], it["less"], *(why["count"] for why in it["reasons"]))
+        if not most <= it["count"] <= min(it["more"] + it["less"], it["pairs"]) or it["pairs"] > it["count"] * len(it["users"]):
+            faults.append(f"{it}: counts that cannot be")
+    return faults
 
 
 def main() -> int:

@@ -9,7 +9,7 @@ from __future__ import annotations
 import itertools
 import re
 import struct
-from typing import Collection, Dict, Iterator, List, NamedTuple, Optional, Tuple
+from typing import Collection, Dict, Iterable, Iterator, List, NamedTuple, Optional, Tuple
 
 from ..base.messages import Failure
 from ..base.names import parent_of, sorting_key, way_to

@@ -28,7 +28,7 @@ PAGE = """\
 <style>%(style)s</style>
 </head>
 <body>
-<noscript>This page needs JavaScript, which it has in itself.</noscript>
+%(first)s<noscript>This page needs JavaScript, which it has in itself.</noscript>
 <script type="application/json" id="data">%(data)s</script>
 <script>%(script)s</script>
 </body>
@@ -45,12 +45,12 @@ def part_of_page(name: str) -> str:
         return file.read()
 
 
-def page_of(data: Dict[str, object], style_file: str = STYLE, scripts: Sequence[str] = SCRIPTS) -> bytes:
-    """The page of these parts; no letter of the data can end its element."""
+def page_of(data: Dict[str, object], style_file: str = STYLE, scripts: Sequence[str] = SCRIPTS, first: str = "") -> bytes:
+    """The page of these parts; no letter of the data can end its element. What is first on it is HTML."""
     style, script = part_of_page(style_file), FUNCTION % "".join(map(part_of_page, (COMMON, *scripts)))
     sources = checksum(script), checksum(style)
     policy = "default-src 'none'; script-src %s; style-src %s; base-uri 'none'; form-action 'none'" % sources
     text = json.dumps(data, ensure_ascii=False, separators=(",", ":"))
     for letter in "<>&\u2028\u2029":
         text = text.replace(letter, "\\u%04x" % ord(letter))
-    return (PAGE % {"policy": policy, "style": style, "data": text, "script": script}).encode("utf-8")
+    return (PAGE % {"policy": policy, "style": style, "data": text, "script": script, "first": first}).encode("utf-8")

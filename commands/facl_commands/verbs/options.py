@@ -100,7 +100,7 @@ ALL: Tuple[VerbOption, ...] = (
                command="--weight"),
     VerbOption(("-e", "--edit"), "a line of edits, in the place of EDITS; it may come several times", "LINE",
                is_repeated=True),
-    VerbOption(("--full",), "print each user and each file", command="--full"),
+    VerbOption(("--full",), "print each change of each user's rights, and not a summary", command="--full"),
     VerbOption(("--keep-going",), "plan the other lines where some were refused", command="--keep-going"),
     VerbOption(("--readers",), "let the members of GROUP read what is written", "GROUP", GROUP, command="--readers"),
     VerbOption(("--leave-changed",), "leave out files that somebody changed or removed since",

@@ -113,7 +113,7 @@ VERBS: Tuple[Verb, ...] = (
     Verb("diff", (Operand("OLD", "a snapshot; the last but one of the store without it", SNAPSHOT, "?"),
                   Operand("NEW", "a later one; the last one of the store without it", SNAPSHOT, "?")),
          "Says who gained and lost what between two snapshots, and why.",
-         (*ANSWERED, "quiet", *PEOPLE, "below", "any_host", *PRINTED, "output"), "questions.diff.command",
+         (*ANSWERED, "quiet", *PEOPLE, "below", "any_host", "full", *PRINTED, "output"), "questions.diff.command",
          "--page=@output -- @before @after @below", prepare=prepare.two),
     Verb("audit", (FOLDERS,), "Says what is wrong with owners and ACLs, by weight, and how many files it is about.",
          (*CHOSEN, *PEOPLE, "list", "weight", "accepted", "fail_on", *PRINTED, "output"), "questions.audit.command",

@@ -7,7 +7,7 @@ from typing import Dict, Iterable, List, NamedTuple, Optional, Set, Tuple
 
 from ...base import folders, tables
 from ...base.messages import Command, Failure, parser_of
-from ...base.names import is_at_or_below, write_user
+from ...base.names import at_or_below, file_name, highest, is_at_or_below, write_user
 from ...base.new_file import NewFile
 from ...base.programs import add_program, find_program
 from ...model import choice, overview, sources
@@ -18,33 +18,37 @@ from ...model.records import blocks_in, name_of, path_of, records_in
 from ...model.rights import Gain, ask_gains
 from ...program.session import OutputSlice, Session
 from . import report
+from .causes import Causes
 from .edits import CannotLead, Edits, group_text
-from .labels import LabelDifferences, Shapes, records_of_folders
-from .moved import Moved, find_moved
-from .reasons import ask_records, reasons_of
+from .events import Explained, explain, unexplained
+from .labels import JudgedUsers, LabelDifferences, TooMany
+from .moved import NO_MOVES, Moved, find_moved, moves_of
+from .reasons import RecordReasons, Time
 from .report import Compared
 from .rows import AllUsers, rows_of
+from .shapes import Shapes, records_of_folders
 from .states import (
-    Pair, State, counts_of, everybody_of, is_same_text, listing_of_all, members_of, pairs_of, people_counts, read_state,
-    session_of, tops_of,
+    Pair, State, counts_of, everybody_of, is_same_text, listing_of_all, members_of, people_counts, read_state, session_of, tops_of,
+    walk,
 )
 
 SAME, DIFFERS = 0, 1
 BY_GAINS, BY_INDEX = "gains", "index"
 HELP = """\
-Says who gained and lost what between two snapshots by facl-snapshot: by other lists, owners, groups, memberships and
-users, and by files that are new, gone or moved. First is what `everybody else` gained or lost, whom no list names, as a
-user whom the snapshots do not have; then what everybody did, gains of write, other gains, and losses. People of one change
-are on one line, of each of these kinds those of most files first:
+Says who gained and lost what between two snapshots by facl-snapshot, event by event, the worst first: what everybody gained
+by another owner, group or ACL; gains of write; other gains; who joined and left groups; users who came and went; files
+that moved, that are new, and that are gone; and losses. Of each of these what is about most files and people is first:
 
-  BEFORE, AFTER  the rights, as rw-; `none`; or `absent`, where the file or the user is not there
-  WHO            the users; `everybody (N)` are all N who are looked at, and everybody else
-  FILES, FIRST   on how many files, and on which first
-  WHY            why it is so on the first file, where that is plain
+  WHO            the users; `everybody (N)` are all N who are looked at, and `everybody else`, whom no list names
+  WHAT           what happened; of several things on how many files each
+  MORE, GAINED   on how many files somebody may do more than before, and what
+  LESS, LOST     and less
+  FIRST          the first of these files
 
-A right counts where the user can get to the file: with search on each directory above. Without FOLDER all files are
-looked at. Users who are no people are left out, and root. A folder of the parts that facl-snapshot --split makes is
-compared as one snapshot, also with one that has no parts.
+With --full it has a row for each change of rights in their place, as `r-- rw-`. A right counts where the user can get to
+the file: with search on each directory above. Without FOLDER all files are looked at. Users who are no people are left
+out, and root. A folder of the parts that facl-snapshot --split makes is compared as one snapshot, also with one that has
+no parts.
 """
 STATUS = """\
 The exit status is 0 where nobody of those who are looked at gained or lost anything, 1 where somebody did, and 2 where
@@ -60,12 +64,14 @@ class Differences(NamedTuple):
     pairs: List[Pair]
     people: List[bytes]  # The lines of the edits that change users and groups.
     listing: List[OutputSlice]  # The files after the edits; none where there are no edits.
+    parts: Optional[List[JudgedUsers]] = None  # What the program said of each record, where it was asked.
 
 
 def parse(words: List[str]) -> argparse.Namespace:
     parser = parser_of("facl-diff", HELP, STATUS)
     add_program(parser)
     parser.add_argument("--any-host", action="store_true", help="also snapshots of two servers")
+    parser.add_argument("--full", action="store_true", help="each change of rights, with those before and after")
     parser.add_argument("--page", metavar="FILE",
                         help="also write a page to look at, as facl-report does, to a new file")
     parser.add_argument("before", metavar="BEFORE", help="a snapshot, or the folder of the parts of one")
@@ -95,6 +101,15 @@ def folders_of(sessions: Tuple[Session, Session], words: Iterable[str]) -> List[
     return found
 
 
+def folders_of_both(sessions: Tuple[Session, Session], states: Tuple[State, State]) -> List[bytes]:
+    """Of two snapshots of which one is an import the folders that both have; none where these are all, or there are none."""
+    if not any(state.is_import() for state in states):
+        return []
+    old, new = (sources.find_tops(session, state.folder) for session, state in zip(sessions, states))
+    both = highest([*at_or_below(old, new), *at_or_below(new, old)])
+    return both if set(both) != {*old, *new} else []
+
+
 class Comparison:
     """Two snapshots by their listings, with everybody else among the users of both."""
 
@@ -105,43 +120,57 @@ class Comparison:
         self.is_alone: bool = given.file_alone
         self.folders: List[bytes] = []  # Those that are looked at; none where all files are.
         self.is_whole = False  # Whether paths start at the root of the file system.
+        self.shapes = Shapes([])
+        self.moved: List[Moved] = []
+        self.moves = NO_MOVES
 
-    def records_of(self, paths: List[bytes]) -> Dict[bytes, bytes]:
-        """The later records of some paths."""
-        wanted = set(paths)
-        both = ((path_of(name_of(record)), record) for record in records_in(self.listings[1]))
-        return {path: record for path, record in both if path in wanted}
+    def read(self) -> List[Pair]:
+        """What differs in the files that are looked at, and the directories above them; all others are counted."""
+        folders = self.folders or [b""]
+        self.shapes = Shapes(folders)
+        old, new = (records_of_folders(blocks_in(it), folders) for it in self.listings)
+        pairs = self.shapes.read(walk(old, new))
+        counted = self.counted(pairs)
+        self.moved = find_moved(*self.plain, counted)
+        self.moves = moves_of(self.moved, counted)
+        self.shapes.count_pairs(self.moves.numbers)
+        return pairs
 
-    def pairs(self, is_all: bool = False) -> Iterable[Pair]:
-        """What differs in the files that are looked at, and the directories above them; or all of these."""
-        old, new = (records_of_folders(blocks_in(it), self.folders or [b""]) for it in self.listings)
-        return pairs_of(old, new, is_all)
+    def counted(self, pairs: List[Pair]) -> List[Pair]:
+        return [pair for pair in pairs if is_at_or_below(pair.path, self.folders)] if self.folders else pairs
 
     def answer(self) -> Differences:
-        return self.by_labels(list(self.pairs()))
+        return self.by_labels(self.read())
 
     def by_labels(self, pairs: List[Pair]) -> Differences:
-        shapes = Shapes()
-        shapes.add(self.pairs(is_all=True), self.folders or [b""])
-        labels = LabelDifferences(self.program, self.states[0], self.states[1], shapes, self.is_alone)
-        return Differences(BY_INDEX, labels.gains(), pairs, [], [])
+        labels = LabelDifferences(self.program, self.states, self.shapes, self.is_alone)
+        parts = labels.parts()
+        return Differences(BY_INDEX, labels.gains(parts), pairs, [], [], parts)
 
     def compared(self, answered: Differences) -> Compared:
         old, new = self.plain
         chosen = chosen_users(old, new, self.given)
         place = {user: number for number, user in enumerate([self.everybody.name, *chosen])}
         gains = sorted((it for it in answered.gains if it.user in place), key=lambda it: place[it.user])
-        counted = [pair for pair in answered.pairs if is_at_or_below(pair.path, self.folders or [b""])]
-        moved: List[Moved] = find_moved(old, new, counted)
-        reasons = reasons_of(self.program, self.states, self.records_of, {it.path: it for it in answered.pairs}, gains,
-                             self.is_alone, self.is_whole)
-        reasons.moved_from = {it.new: it.old for it in moved}
-        reasons.moved_to = {it.old: it.new for it in moved}
+        explained = self.explained(answered.parts, gains, place)
         left_out = list(dict.fromkeys(it.user for it in answered.gains if it.user not in place))
         everybody = AllUsers((old, new), set(chosen), self.everybody)
-        return Compared(old, new, self.folders, self.is_whole, answered.by,
-                        rows_of(gains, reasons.of, everybody), everybody, left_out, counts_of(counted),
-                        people_counts(members_of(old.people()), members_of(new.people())), moved)
+        return Compared(old, new, self.folders, self.is_whole, answered.by, explained.events,
+                        rows_of(gains, explained.of, everybody), everybody, left_out, counts_of(self.counted(answered.pairs)),
+                        people_counts(members_of(old.people()), members_of(new.people())), self.moved)
+
+    def explained(self, parts: Optional[List[JudgedUsers]], gains: List[Gain], order: Dict[bytes, int]) -> Explained:
+        """What happened, to which these gains are due."""
+        wanted = frozenset(it.user for it in gains)
+        if not wanted:
+            return Explained([], {})
+        try:
+            parts = parts or LabelDifferences(self.program, self.states, self.shapes, self.is_alone, wanted).parts()
+        except TooMany:
+            return unexplained(gains, self.everybody.name)
+        reasons = RecordReasons((Time(self.program, self.states[0]), Time(self.program, self.states[1])), self.shapes)
+        causes = Causes(self.shapes, reasons, self.moves, self.is_alone, lambda path: file_name(path, self.is_whole))
+        return explain(parts, causes, order, self.everybody.name)
 
 
 class OfSessions(Comparison):
@@ -153,17 +182,16 @@ class OfSessions(Comparison):
                                                       for session, state in zip(sessions, states)], given)
         self.sessions = sessions
         self.tops = tops_of((sessions[0], states[0]), (sessions[1], states[1]))
-        self.folders, self.is_whole = folders_of(sessions, given.folders), self.tops == [b""]
-
-    def records_of(self, paths: List[bytes]) -> Dict[bytes, bytes]:
-        return ask_records(self.sessions[1], paths)
+        self.folders = folders_of(sessions, given.folders) or folders_of_both(sessions, states)
+        self.is_whole = self.tops == [b""]
 
     def answer(self) -> Differences:
-        pairs = list(self.pairs())
-        if self.folders:
+        pairs = self.read()
+        if self.folders and self.given.page is None:
             return self.by_labels(pairs)
         try:
-            return self.by_edits(pairs)
+            edited = self.by_edits(pairs)
+            return self.by_labels(pairs)._replace(people=edited.people, listing=edited.listing) if self.folders else edited
         except CannotLead as error:
             if self.given.page is not None:
                 raise Failure(b"no page is made, as no edits lead from one snapshot to the other: "
@@ -178,14 +206,13 @@ class OfSessions(Comparison):
             raise CannotLead(b"the files are others then")
         return Differences(BY_GAINS, ask_gains(self.sessions[0], self.is_alone), pairs, edits.people, listing)
 
-    def page(self, answered: Differences) -> Optional[bytes]:
+    def page(self, answered: Differences, compared: Compared) -> Optional[bytes]:
         if self.given.page is None:
             return None
         from .page import page_of  # Few runs need it.
 
-        group = group_text(*self.plain)
         listings = [self.listings[0], answered.listing]
-        return page_of(self.program, self.plain[0], self.plain[1], group, answered.people, listings, self.given)
+        return page_of(self.program, compared, group_text(*self.plain), answered.people, listings, self.given)
 
 
 class OfParts(Comparison):
@@ -226,7 +253,8 @@ def compare(command: Command, given: argparse.Namespace) -> Tuple[Compared, Opti
     for text in report.warnings(old, new):
         command.say(text)
     beside = [list(alone(marks_of(state.folder))) for state in (old, new)]
-    for state in (old, new):
+    # What an import cannot tell is about the files of both.
+    for state in [it for it in (old, new) if not it.is_import() or it is new and (old.is_import() or given.acl5)]:
         overview.say_notices(command, sources.Source(state.folder, state.folder, False), given.acl5 and state is new,
                              is_alone=state is new or beside[0] != beside[1])
     everybody = everybody_of(old, new)
@@ -240,7 +268,8 @@ def compare(command: Command, given: argparse.Namespace) -> Tuple[Compared, Opti
     with session_of(program, states[0], group_text(*states)) as before, session_of(program, states[1]) as after:
         comparison = OfSessions(program, (old, new), everybody, (before, after), given)
         answered = comparison.answer()
-        return comparison.compared(answered), comparison.page(answered)
+        compared = comparison.compared(answered)
+        return compared, comparison.page(answered, compared)
 
 
 def write(command: Command, given: argparse.Namespace, compared: Compared) -> None:
@@ -248,12 +277,12 @@ def write(command: Command, given: argparse.Namespace, compared: Compared) -> No
         tables.write_json(command, given, report.SCHEMA, report.object_of(given, compared))
         return
     if given.tsv:
-        tables.write_table(command, given, report.fields_table(compared))
+        tables.write_table(command, given, report.fields_table(compared, given.full))
     else:
         with tables.paged(command, not given.no_pager):
             if compared.rows:
-                tables.write_table(command, given, report.table_of(compared))
-            for line in [*report.line_beside(compared), report.summary(compared)]:
+                tables.write_table(command, given, report.table_of(compared, given.full))
+            for line in [*report.line_beside(compared), *report.summary(compared)]:
                 command.tell(line)
     for note in choice.notes(compared.left_out, compared.new.passwd + b"\n" + compared.old.passwd):
         command.say(note)

@@ -1,125 +1,37 @@
-"""What differs between two snapshots where no edits lead from one to the other, and below some folders.
+"""What differs between two snapshots by what the program answers of each different record.
 
-What a user may do with a file depends on its owner, group and access list alone, and along a path on those of the
-recorded directories above it too. So files with the same record and directories with the same records above them,
-before and after, are counted together, and the program is asked by `index` of each record once. Users who have the same
-id and groups in both snapshots are asked about only where records differ.
+It is asked by `index` of each record once, for files of all shapes that have it. Users who have the same id and groups in
+both snapshots are asked about only where records differ.
 """
 from __future__ import annotations
 
 from operator import itemgetter
-from typing import Dict, Iterable, Iterator, List, NamedTuple, Sequence, Set, Tuple
+from typing import Dict, FrozenSet, Iterable, List, NamedTuple, Optional, Tuple
 
 from ...base.messages import Failure
-from ...base.names import is_at_or_below, is_below, shown_path, write_user
-from ...base.numbered import Numbered
+from ...base.names import write_user
 from ...model.label_answers import dump_of, vectors_of
 from ...model.people import rows_of
 from ...model.rights import ABSENT, GRANTED, Gain, is_change, places_in, users_of
-from ...model.rules_of_lists import along_path, inside, lanes
-from ...program.protocol import FILE_HEAD, INDEX
+from ...model.rules_of_lists import HAS_SEARCH, along_path, inside, lanes
+from ...program.protocol import INDEX
 from ...program.session import session_over
-from .states import ListedFile, Member, Pair, RecordReader, State, members_of
+from .shapes import GONE, NONE, Counted, Shape, Shapes
+from .states import State, members_of
 
-GONE = -1  # In the place of a record that is not there.
-OPEN = 0  # The number of no directories above.
 CELLS_AT_ONCE = 4_000_000  # Bytes of `index` that one session is asked for,
 MOST_CELLS = 200_000_000  # and all of them: some minutes.
-Key = Tuple[int, int]
 TEXTS = [ABSENT, *GRANTED[1:]]  # By a byte of `index`; 0 is where the user or the file is not there.
 
 
-class Shape(NamedTuple):
-    """What decides on files: their record before and after, and the directories above, by numbers."""
-
-    old: int
-    new: int
-    old_above: int
-    new_above: int
-
-    def is_touched(self) -> bool:
-        return self.old != self.new or self.old_above != self.new_above
-
-
-class Counted:
-    """Files of one shape: how many, and the first of them, with its place in path order."""
-
-    def __init__(self, place: int, first: bytes) -> None:
-        self.files, self.place, self.first = 0, place, first
-
-
-class Shapes:
-    """The files of two snapshots by their shapes."""
-
-    def __init__(self) -> None:
-        self.bodies: Numbered[bytes] = Numbered()
-        # Directories from the root on: the number of those above the last one, and that of its record.
-        self.ways: Numbered[Key] = Numbered()
-        self.ways.number((OPEN, GONE))  # OPEN.
-        self.counted: Dict[Shape, Counted] = {}
-
-    def add(self, pairs: Iterable[Pair], folders: Sequence[bytes]) -> None:
-        """Adds all paths of both snapshots; those are counted that are folders or below one."""
-        above: Tuple[List[Tuple[bytes, int]], List[Tuple[bytes, int]]] = ([], [])
-        for place, pair in enumerate(pairs):
-            numbers = [GONE if it is None else self.bodies.number(it.body()) for it in (pair.old, pair.new)]
-            ways = [self.way_to(pair.path, found, number, side)
-                    for found, number, side in zip((pair.old, pair.new), numbers, above)]
-            if is_at_or_below(pair.path, folders):
-                shape = Shape(numbers[0], numbers[1], ways[0], ways[1])
-                if shape not in self.counted:
-                    found = pair.new or pair.old
-                    assert found is not None
-                    self.counted[shape] = Counted(place, found.name())
-                self.counted[shape].files += 1
-
-    def way_to(self, path: bytes, found: ListedFile | None, number: int, above: List[Tuple[bytes, int]]) -> int:
-        """The directories above a path, on one side; the path is above the next ones where it is a directory."""
-        while above and not is_below(path, above[-1][0]):
-            above.pop()
-        way = above[-1][1] if above else OPEN
-        if found is not None and found.is_directory:
-            above.append((path, self.ways.number((way, number))))
-        return way
-
-    def records(self, shapes: Iterable[Shape]) -> List[int]:
-        """The numbers of all records that decide on files of these shapes."""
-        found: Set[int] = set()
-        seen = {OPEN}
-        for shape in shapes:
-            found |= {shape.old, shape.new}
-            for way in (shape.old_above, shape.new_above):
-                while way not in seen:
-                    seen.add(way)
-                    way, body = self.ways.values[way]
-                    found.add(body)
-        return sorted(found - {GONE})
-
-
-def wanted_heads(folders: Sequence[bytes]) -> Tuple[bytes, ...]:
-    """How the records of folders begin, and those of the files in them and of the directories above."""
-    heads: Set[bytes] = set()
-    for folder in folders:
-        name = FILE_HEAD + shown_path(folder)
-        heads |= {name + b"\n", name + b"/"} if folder else {FILE_HEAD}
-        while folder:
-            folder = folder.rpartition(b"/")[0]
-            name = FILE_HEAD + shown_path(folder)
-            heads |= {name + b"\n", name + b"/\n"}
-    return tuple(heads)
-
-
-def records_of_folders(blocks: Iterator[List[bytes]], folders: Sequence[bytes]) -> RecordReader:
-    """The records that decide on the files in some folders."""
-    heads = wanted_heads(folders)
-    return RecordReader(blocks if FILE_HEAD in heads else (
-        [record for record in block if record.startswith(heads)] for block in blocks))
+class TooMany(Failure):
+    """That more is to be asked than takes some minutes."""
 
 
 # --- what the program answers of records
 
 
-def rows_with(passwd: bytes, names: Set[bytes]) -> bytes:
+def rows_with(passwd: bytes, names: FrozenSet[bytes]) -> bytes:
     """The rows of some users, as lines."""
     return b"".join(b":".join(row) + b"\n" for row in rows_of(passwd) if row[0] in names)
 
@@ -132,7 +44,7 @@ def ask_part(program: str, passwd: bytes, group: bytes, bodies: List[bytes]) -> 
         return users, vectors_of(table, users, len(bodies))
 
 
-def ask_vectors(program: str, state: State, names: Set[bytes], users: List[bytes],
+def ask_vectors(program: str, state: State, names: FrozenSet[bytes], users: List[bytes],
                 bodies: List[bytes]) -> List[bytes]:
     """For each body a byte for each user, 0 for one who is not there."""
     passwd = rows_with(state.passwd, names)
@@ -156,13 +68,25 @@ def ask_vectors(program: str, state: State, names: Set[bytes], users: List[bytes
 # --- what differs
 
 
+class Change(NamedTuple):
+    """What a user, by a place among some, may do otherwise than before with files."""
+
+    place: int
+    old: str
+    new: str
+
+    def is_kept(self) -> bool:
+        """Whether the files and the user are there before and after."""
+        return ABSENT not in (self.old, self.new)
+
+
 class SideRights:
     """What some users may do at one time."""
 
     def __init__(self, shapes: Shapes, vectors: Dict[int, bytes], users: int, is_alone: bool) -> None:
         self.shapes, self.vectors, self.is_alone = shapes, vectors, is_alone
         self.nobody = bytes(users)
-        self.reached: Dict[int, bytes] = {OPEN: b"\1" * users}
+        self.reached: Dict[int, bytes] = {NONE: b"\1" * users}
 
     def reach(self, way: int) -> bytes:
         """For each user 1 who can search all directories of a way, else 0."""
@@ -182,71 +106,71 @@ class SideRights:
         vector = self.vectors[body]
         return vector if self.is_alone else along_path(vector, self.reach(way))
 
+    def searches(self, body: int, place: int) -> bool:
+        """Whether a user may search a directory; one that is not recorded keeps nobody out."""
+        return body == GONE or bool(HAS_SEARCH[self.vectors[body][place]])
 
-class ChangeTally:
-    """The changes of users, with the number of files and the first of them."""
 
-    def __init__(self, users: List[bytes]) -> None:
-        self.users = users
-        self.found: Dict[Tuple[int, str, str], Counted] = {}
-        self.known: Dict[Tuple[bytes, bytes], List[Tuple[int, str, str]]] = {}
+class JudgedUsers:
+    """Some users, and the shapes of files with which they may do otherwise than before."""
 
-    def changes(self, old: bytes, new: bytes) -> List[Tuple[int, str, str]]:
+    def __init__(self, users: List[bytes], shapes: List[Shape], sides: Tuple[SideRights, SideRights]) -> None:
+        self.users, self.shapes, self.sides = users, dict.fromkeys(shapes), sides
+        self.known: Dict[Tuple[bytes, bytes], List[Change]] = {}
+
+    def changes(self, shape: Shape) -> List[Change]:
+        """What these users may do otherwise with a file of a shape."""
+        if shape not in self.shapes:
+            return []
+        old = self.sides[0].granted(shape.old, shape.old_above)
+        new = self.sides[1].granted(shape.new, shape.new_above)
+        if old == new:
+            return []
         if (old, new) not in self.known:
             differing = (lanes(old) ^ lanes(new)).to_bytes(len(new), "little")
-            its = ((place, TEXTS[old[place]], TEXTS[new[place]]) for place in places_in(differing))
-            self.known[old, new] = [it for it in its if is_change(it[1], it[2])]
+            its = (Change(place, TEXTS[old[place]], TEXTS[new[place]]) for place in places_in(differing))
+            self.known[old, new] = [it for it in its if is_change(it.old, it.new)]
         return self.known[old, new]
-
-    def add(self, old: bytes, new: bytes, files: Counted) -> None:
-        for change in self.changes(old, new):
-            counted = self.found.setdefault(change, Counted(files.place, files.first))
-            counted.files += files.files
-            if files.place < counted.place:
-                counted.place, counted.first = files.place, files.first
-
-    def gains(self) -> Iterator[Gain]:
-        for (place, old, new), files in self.found.items():
-            yield Gain(self.users[place], old, new, files.files, files.first)
 
 
 class LabelDifferences:
-    """What differs between two snapshots, by the records of their files."""
+    """What differs between two snapshots, by the records of their files: for all users, or for some."""
 
-    def __init__(self, program: str, old: State, new: State, shapes: Shapes, is_alone: bool) -> None:
-        self.program, self.states, self.shapes, self.is_alone = program, (old, new), shapes, is_alone
-        self.members: Tuple[Dict[bytes, Member], ...] = tuple(members_of(it.people()) for it in self.states)
+    def __init__(self, program: str, states: Tuple[State, State], shapes: Shapes, is_alone: bool,
+                 wanted: Optional[FrozenSet[bytes]] = None) -> None:
+        self.program, self.states, self.shapes, self.is_alone = program, states, shapes, is_alone
+        before, after = self.members = (members_of(states[0].people()), members_of(states[1].people()))
+        self.names = [name for name in {**before, **after} if wanted is None or write_user(name) in wanted]
 
-    def gains(self) -> List[Gain]:
+    def parts(self) -> List[JudgedUsers]:
         before, after = self.members
-        names = list({**before, **after})
-        others = [name for name in names if before.get(name) != after.get(name)]
-        same = [name for name in names if before.get(name) == after.get(name)]
+        others = [name for name in self.names if before.get(name) != after.get(name)]
+        same = [name for name in self.names if before.get(name) == after.get(name)]
         shapes = list(self.shapes.counted)
-        touched = [shape for shape in shapes if shape.is_touched()]
-        self.check_size(((others, shapes), (same, touched)))
-        found = [*self.tally(others, shapes), *self.tally(same, touched)]
-        place = {write_user(name): number for number, name in enumerate(names)}
-        return sorted(found, key=lambda gain: place[gain.user])
+        asked = ((others, shapes), (same, [shape for shape in shapes if shape.is_touched()]))
+        self.check_size(asked)
+        return [self.part(*it) for it in asked if all(it)]
 
     def check_size(self, asked: Iterable[Tuple[List[bytes], List[Shape]]]) -> None:
         cells = sum(2 * len(names) * len(self.shapes.records(shapes)) for names, shapes in asked)
         if cells > MOST_CELLS:
-            raise Failure(b"too many different records for so many users: compare FOLDERs one by one")
+            raise TooMany(b"too many different records for so many users: compare FOLDERs one by one")
 
-    def tally(self, names: List[bytes], shapes: List[Shape]) -> Iterator[Gain]:
-        """The changes of some users, on files of some shapes."""
-        if not names or not shapes:
-            return iter(())
+    def part(self, names: List[bytes], shapes: List[Shape]) -> JudgedUsers:
         users = [write_user(name) for name in names]
         numbers = self.shapes.records(shapes)
-        bodies = [self.shapes.bodies.values[number] for number in numbers]
-        sides = [SideRights(self.shapes, dict(zip(numbers, ask_vectors(self.program, state, set(names), users, bodies))),
+        bodies = [self.shapes.bodies.values[number] + b"\n" for number in numbers]
+        sides = [SideRights(self.shapes, dict(zip(numbers, ask_vectors(self.program, state, frozenset(names), users, bodies))),
                             len(users), self.is_alone) for state in self.states]
-        found = ChangeTally(users)
-        for shape in shapes:
-            old = sides[0].granted(shape.old, shape.old_above)
-            new = sides[1].granted(shape.new, shape.new_above)
-            if old != new:
-                found.add(old, new, self.shapes.counted[shape])
-        return found.gains()
+        return JudgedUsers(users, shapes, (sides[0], sides[1]))
+
+    def gains(self, parts: Iterable[JudgedUsers]) -> List[Gain]:
+        found: Dict[Tuple[bytes, str, str], Counted] = {}
+        for part in parts:
+            for shape in part.shapes:
+                for place, old, new in part.changes(shape):
+                    files = self.shapes.counted[shape]
+                    found.setdefault((part.users[place], old, new), Counted(files.place, files.first)).add(files)
+        order = {write_user(name): number for number, name in enumerate(self.names)}
+        gains = [Gain(*key, files.files, files.first) for key, files in found.items()]
+        return sorted(gains, key=lambda gain: order[gain.user])

@@ -3,7 +3,7 @@ from __future__ import annotations
 
 from typing import Dict, Iterable, List, NamedTuple, Set, Tuple
 
-from ...base.names import sorting_key
+from ...base.names import parent_of, sorting_key
 from ...model import split_tree
 from ...model.snapshot import NO_BOOT, Inodes, read_some
 from .states import Pair, State
@@ -53,3 +53,35 @@ def find_moved(old: State, new: State, pairs: Iterable[Pair]) -> List[Moved]:
             if gone[names[0]] == made[there[0]]:
                 found.append(Moved(names[0], there[0]))
     return sorted(found, key=lambda it: sorting_key(it.old))
+
+
+class Moves(NamedTuple):
+    """Moves, each of a file or a folder with all that went with it, by numbers from 1 on; and the number of each path, old and
+    new."""
+
+    tops: List[Moved]
+    numbers: Dict[bytes, int]
+
+
+NO_MOVES = Moves([Moved(b"", b"")], {})
+
+
+def moves_of(moved: Iterable[Moved], pairs: Iterable[Pair]) -> Moves:
+    """What is gone from a folder that moved, and is there by the same name in it, moved with it."""
+    to = {it.old: it.new for it in moved}
+    gone, made = [], set()
+    for pair in pairs if to else ():
+        if pair.new is None:
+            gone.append(pair.path)
+        elif pair.old is None:
+            made.add(pair.path)
+    tops, numbers = [*NO_MOVES.tops], {**NO_MOVES.numbers}
+    for path in sorted(gone, key=sorting_key):
+        above = parent_of(path)
+        there = to[above] + path[len(above) :] if above in to else None
+        new = to.setdefault(path, there) if there is not None and there in made else to.get(path)
+        if new is not None:
+            if new != there:
+                tops.append(Moved(path, new))
+            numbers[path] = numbers[new] = numbers[above] if new == there else len(tops) - 1
+    return Moves(tops, numbers)

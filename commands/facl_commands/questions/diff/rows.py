@@ -1,26 +1,26 @@
 """Changes of several people as one, in the order of what a person is to see first."""
 from __future__ import annotations
 
-from typing import Callable, Dict, Iterable, Iterator, List, NamedTuple, Set, Tuple
+from typing import Callable, Dict, Iterable, Iterator, List, NamedTuple, Set, Tuple, Union
 
 from ...base.names import write_user
 from ...model.everybody import Everybody
-from ...model.rights import ABSENT, REQUESTS, Gain, order_of
+from ...model.rights import ABSENT, Gain, order_of
+from .events import Event, Reason, effect_of
 from .states import State
 
 FEWEST = 2  # Users of the snapshots who are called everybody, with everybody else.
-WRITE = 2  # The bit of a request.
 
 
 class ChangeRow(NamedTuple):
-    """People of one change, with why it is so on the first file, where that is plain."""
+    """People of one change, with why it is so."""
 
     old: str
     new: str
     users: List[bytes]
     files: int
     first: bytes
-    why: bytes
+    reasons: Tuple[Reason, ...]
 
 
 class AllUsers:
@@ -43,16 +43,21 @@ class AllUsers:
         users = set(row.users) - {self.everybody.name}
         return len(users) >= FEWEST and users == self.known(row)
 
-    def has_else(self, row: ChangeRow) -> bool:
+    def has_else(self, row: Union[ChangeRow, Event]) -> bool:
         return self.everybody.name in row.users
 
+    def are_all(self, event: Event) -> bool:
+        """Whether an event is about all who are there before and after."""
+        users = set(event.users) - {self.everybody.name}
+        return len(users) >= FEWEST and users >= self.before & self.after
 
-def rows_of(gains: Iterable[Gain], why: Callable[[Gain], bytes], everybody: AllUsers) -> List[ChangeRow]:
-    """The changes; people with one change for one reason are together, but for everybody else: that row has all users, or nobody
-    beside."""
-    found: Dict[Tuple[str, str, int, bytes, bytes], ChangeRow] = {}
+
+def rows_of(gains: Iterable[Gain], reasons: Callable[[Gain], Tuple[Reason, ...]], everybody: AllUsers) -> List[ChangeRow]:
+    """The changes; people with one change for the same reasons are together, but for everybody else: that row has all users, or
+    nobody beside."""
+    found: Dict[Tuple[str, str, int, bytes, Tuple[Reason, ...]], ChangeRow] = {}
     for gain in gains:
-        key = (*gain[1:], why(gain))
+        key = (*gain[1:], reasons(gain))
         found.setdefault(key, ChangeRow(gain.old, gain.new, [], gain.files, gain.first, key[-1])).users.append(gain.user)
     rows = [it for row in found.values() for it in parted(row, everybody)]
     return sorted(rows, key=lambda row: (rank(row, everybody), -row.files, order_of(row.first), -len(row.users)))
@@ -74,12 +79,5 @@ def parted(row: ChangeRow, everybody: AllUsers) -> Iterator[ChangeRow]:
 def rank(row: ChangeRow, everybody: AllUsers) -> Tuple[int, int]:
     """First what everybody else gained or lost, then what everybody did, and of each gains of write, other gains, and losses."""
     who = 2 if not everybody.has_else(row) else 0 if len(row.users) == 1 else 1
-    old, new = requests_in(row.old), requests_in(row.new)
-    is_write = any(it & WRITE for it in new) and not any(it & WRITE for it in old)
-    return who, 0 if is_write else 1 if new - old else 2
-
-
-def requests_in(text: str) -> Set[int]:
-    """All requests that a right grants, of which its text has the greatest; none where the user or the file is not there."""
-    greatest = [REQUESTS.index(it) for it in text.split(" ") if it in REQUESTS]
-    return {request for request in range(1, len(REQUESTS)) for it in greatest if request & it == request}
+    effect = effect_of(row.old, row.new)
+    return who, 0 if effect.is_write else 1 if effect.gained else 2

@@ -2,7 +2,7 @@
 from __future__ import annotations
 
 import itertools
-from typing import ContextManager, Dict, FrozenSet, Iterable, Iterator, List, NamedTuple, Optional, Tuple
+from typing import ContextManager, Dict, FrozenSet, Iterable, Iterator, List, NamedTuple, Optional, Tuple, Union
 
 from ...base import scratch
 from ...base.folders import folder_of
@@ -16,8 +16,7 @@ from ...model.snapshot import NEEDED
 from ...program.protocol import FILE_HEAD
 from ...program.session import OutputSlice, Session
 
-
-FEWEST_PASSED = 16  # Records.
+LINKS = b"links"  # A text that facl-snapshot makes.
 
 
 class State(NamedTuple):
@@ -31,6 +30,10 @@ class State(NamedTuple):
 
     def is_split(self) -> bool:
         return self.folders != [self.folder]
+
+    def is_import(self) -> bool:
+        """Whether it is made of a dump, of which facl-snapshot knows nothing."""
+        return self.about is meta.UNKNOWN and not self.is_split() and not folder_of(self.folder).has(LINKS)
 
     def named(self) -> bytes:
         return meta.named(self.folder, self.about)
@@ -58,7 +61,7 @@ class ListedFile(NamedTuple):
         return name_of(self.record)
 
     def body(self) -> bytes:
-        return body_of(self.record) + b"\n"
+        return body_of(self.record)
 
 
 class Pair(NamedTuple):
@@ -165,47 +168,56 @@ class RecordReader:
         self.block: List[bytes] = []
         self.place = 0
 
-    def next(self) -> Optional[bytes]:
+    def peek(self) -> Optional[bytes]:
+        """The next one; None at the end."""
         while self.place == len(self.block):
             block = next(self.blocks, None)
             if block is None:
                 return None
             self.block, self.place = block, 0
-        self.place += 1
-        return self.block[self.place - 1]
+        return self.block[self.place]
 
     def part(self, size: int) -> List[bytes]:
-        """The next ones of those that came with the last one."""
+        """The next ones of those that came with it."""
         return self.block[self.place : self.place + size]
 
 
-def pass_same(old: RecordReader, new: RecordReader) -> None:
-    """Passes over the next records as far as they are the same in both, but for the last of them, after which others may come."""
-    size = FEWEST_PASSED
-    while size >= FEWEST_PASSED:
+def take_same(old: RecordReader, new: RecordReader) -> List[bytes]:
+    """Takes the next records as far as they are the same in both, and came at once."""
+    found: List[bytes] = []
+    size, is_growing = 1, old.peek() is not None and new.peek() is not None
+    while size:
         part = old.part(size)
-        is_same = len(part) == size and part == new.part(size)
-        for reader in (old, new) if is_same else ():
-            reader.place += size - 1
-        size = 2 * size if is_same else size // 2
-
-
-def pairs_of(old: RecordReader, new: RecordReader, is_all: bool = False) -> Iterator[Pair]:
-    """The paths of two listings whose files differ, or all of them, in path order."""
-    before, after = old.next(), new.next()
-    while before is not None or after is not None:
-        has_old = before is not None and is_first(before, after) if before != after else True
-        has_new = after is not None and is_first(after, before) if before != after else True
-        next_old = old.next() if has_old else before
-        next_new = new.next() if has_new else after
-        if is_all or before != after or next_old != next_new:
-            pair = pair_of(found_of(before, next_old) if has_old else None,
-                           found_of(after, next_new) if has_new else None)
-            if is_all or before != after or pair.is_of_other_kind():
-                yield pair
+        if part and part == new.part(size):
+            found += part
+            for reader in (old, new):
+                reader.place += len(part)
         else:
-            pass_same(old, new)
-        before, after = next_old, next_new
+            is_growing = False
+        size = 2 * size if is_growing else size // 2
+    return found
+
+
+def walk(old: RecordReader, new: RecordReader) -> Iterator[Union[Pair, List[bytes]]]:
+    """All paths of two listings in path order: pairs of files that differ, and between them the records that are the same in both."""
+    held: List[bytes] = []  # The last of these: whether it is that of a directory both times, what follows says.
+    while True:
+        same = take_same(old, new)
+        if same:
+            yield held + same[:-1]
+            held = same[-1:]
+            continue
+        before, after = old.peek(), new.peek()
+        for record in held:
+            pair = pair_of(found_of(record, before), found_of(record, after))
+            yield pair if pair.is_of_other_kind() else held
+        held = []
+        if before is None and after is None:
+            return
+        has_old = before is not None and is_first(before, after)
+        has_new = after is not None and is_first(after, before)
+        old.place, new.place = old.place + has_old, new.place + has_new
+        yield pair_of(found_of(before, old.peek()) if has_old else None, found_of(after, new.peek()) if has_new else None)
 
 
 def pair_of(old: Optional[ListedFile], new: Optional[ListedFile]) -> Pair:
