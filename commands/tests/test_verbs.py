@@ -10,7 +10,7 @@ from typing import Dict, Iterator, List, Set, Tuple
 from unittest import mock
 
 from common import COMMANDS
-from verb_case import DAY, VerbCase
+from verb_case import DAY, VerbCase, with_entry_of_nobody
 
 sys.path.insert(0, COMMANDS)
 
@@ -47,6 +47,7 @@ SAME: Tuple[Tuple[str, str], ...] = (
     ("plan edits --full --json -o one", "facl-plan --full --json --plan one SNAP edits"),
     ("plan edits bad --keep-going -o two", "facl-plan --keep-going --plan two SNAP edits bad"),
     ("plan bad -o a", "facl-plan --plan a SNAP bad"),
+    ("leaver 4711 -o gone", "facl-plan --plan gone SNAP leaver"), ("joiner ben --like guest -o came", "facl-plan --plan came SNAP joiner"),
     ("page", "facl-report SNAP"), ("page edits --alone --with-root", "facl-report --file-alone --with-root SNAP edits"),
     ("review /srv/project/drafts", "facl-report --for-review --folder /srv/project/drafts SNAP"),
     ("ask script", "facl-ask SNAP script"), ("ask script script --headings", "facl-ask --headings SNAP script script"),
@@ -117,12 +118,15 @@ class Verbs(VerbCase):
         self.snap = self.stored("new")
         self.old = self.stored("old", seconds=3 * DAY)
         dump = self.read("store/new/dump")
-        self.write("store/new/dump", dump.replace(b"mask::r--", b"mask::rw-"))
+        self.write("store/new/dump", with_entry_of_nobody(dump.replace(b"mask::r--", b"mask::rw-")))
         self.write("edits", b"setfacl -n -m u:guest:r /srv/project/notes.txt\n")
         self.write("bad", b"frob\nchmod 600 /srv/project/notes.txt\n")
         self.write("rules", b"never guest read /srv/project/\n")
         self.write("broken", b"never mara read /srv/project/\n")
         self.write("fine", b"set-user-id /srv/project/ it is meant\n")
+        self.write("leaver", b"setfacl -n -x u:4711 /srv/project/README\n")
+        self.write("joiner", b"setfacl -n -m u:ben:r-x /srv/project/drafts\nsetfacl -n -m u:ben:r-- /srv/project/drafts/logo.svg\n"
+                   b"setfacl -n -m d:u:ben:rw- /srv/project/drafts\n")
         self.write("script", b"who --reach w /srv/project/notes.txt\nfrob\n")
 
     def test_each_says_what_its_command_says(self) -> None:

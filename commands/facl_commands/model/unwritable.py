@@ -13,14 +13,13 @@ from typing import Callable, Dict, Iterator, List, NamedTuple
 from ..base import beside
 from ..base.messages import counted
 from ..base.names import highest
-from ..program.protocol import LIST_ALL, LIST_NUMBERS, RESTORE
-from ..program.session import Session, parts_of
+from ..program.protocol import LIST_ALL, LIST_NUMBERS
+from ..program.session import Session
 from . import sources
 from .marks import NO_WRITING, Marks
-from .records import File, list_slices, list_words, write_record
+from .records import list_slices, list_words, restore
 
 WRITES = re.compile(rb"^((?:user|group|mask|other):[0-9]*:[r-])w", re.MULTILINE)  # In a record with ids as numbers.
-ROOM = 1 << 24  # Bytes of records that are given back at once.
 NOUNS = {beside.IMMUTABLE: ("immutable file", ""),
          beside.READ_ONLY: ("file on a read-only file system", "files on read-only file systems")}
 
@@ -52,9 +51,7 @@ def find_unwritable(session: Session, marks: Marks, folders: List[bytes]) -> Unw
 
 def give(session: Session, found: Unwritable, body_of: Callable[[bytes], bytes] = bytes) -> None:
     """Has the files be as their records say, or as these are changed."""
-    records = (write_record(path, File(False, body_of(body))) for path, body in found.bodies.items())
-    for part in parts_of(records, ROOM):
-        session.ask_accepted(RESTORE + b"\n" + b"".join(part) + b".")
+    restore(session, ((path, body_of(body)) for path, body in found.bodies.items()))
 
 
 @contextlib.contextmanager

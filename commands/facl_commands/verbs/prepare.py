@@ -3,11 +3,18 @@ from __future__ import annotations
 
 import argparse
 import os
+from typing import TYPE_CHECKING
 
 from ..base import scratch
 from ..base.messages import Command, Failure
+from ..base.programs import find_program
+from ..model.sources import Source
 from . import store
 
+if TYPE_CHECKING:
+    from ..jobs.of_user import JobPlan
+
+REMAINS = 1  # The status where a job leaves something to be done.
 EDITS = "edits"  # What a plan is named by, where its lines are in no file.
 
 
@@ -70,6 +77,40 @@ def plan(command: Command, given: argparse.Namespace) -> None:
     if given.output is None:
         name = os.path.basename(given.scripts[0])
         given.output = (EDITS if name in ("", "-", ".", "..") else name) + ".plan"
+
+
+def leaver(command: Command, given: argparse.Namespace) -> None:
+    """Takes the lines for a user who leaves."""
+    from ..jobs import leaver as job  # As few verbs need it, and a program.
+
+    choose(command, given)
+    heir = None if given.to is None else os.fsencode(given.to)
+    take_job(command, given, "leaver", job.plan_of(find_program(given), source_of(given), os.fsencode(given.user), heir))
+
+
+def joiner(command: Command, given: argparse.Namespace) -> None:
+    """Takes the lines that give a user what another one has."""
+    from ..jobs import joiner as job
+
+    choose(command, given)
+    new, like = map(os.fsencode, (given.newuser, given.like))
+    take_job(command, given, "joiner", job.plan_of(find_program(given), source_of(given), new, like, given.folders))
+
+
+def source_of(given: argparse.Namespace) -> Source:
+    return Source(given.stored.folder, given.stored.name, False)
+
+
+def take_job(command: Command, given: argparse.Namespace, name: str, found: JobPlan) -> None:
+    """Has facl-plan make a plan of a job; what it leaves to be done is said after the plan, and the status is 1 then."""
+    def after(status: int) -> int:
+        for text in [*([] if given.quiet else found.said), *found.left]:
+            command.say(text)
+        return REMAINS if found.left else status
+
+    take_edits(given, found.edits)
+    given.output = given.output or "%s-%s.plan" % (name, os.fsdecode(found.about))
+    given.after = after
 
 
 def ask(command: Command, given: argparse.Namespace) -> None:

@@ -18,6 +18,9 @@ RECORDED = ("exclude", "cross_file_systems", "users", "readers")
 RECORDING, ASKING, CHANGING, SHOWING = "Record", "Ask", "Change", "Show"
 OF_PARTS = ("questions.audit.command", "questions.check.command", "verbs.why")  # And facl diff, which chooses two.
 UNCHANGED = "nothing was changed"
+NO_PLAN = "no plan was written"
+OF_PLAN = ("with_root", "alone", "full", "keep_going", "readers", "json", "output")
+PLANS = "--plan=@output -- @folder @scripts"
 NO_SNAPSHOT = "the snapshot that was begun is removed"
 
 
@@ -141,6 +144,12 @@ VERBS: Tuple[Verb, ...] = (
          ("dry_run", "leave_changed", "drop_capabilities"), "apply.command", "--undo --dry-run?dry_run -- @plan",
          CHANGING,
          prepare=prepare.nothing, goes_on=True, stopped="all files get their old ACLs back before it ends"),
+    Verb("leaver", (Operand("USER", "a user by name or id", USER),),
+         "Plans what takes a user away: entries, files, memberships and the account; says what remains.",
+         (*CHOSEN, *OF_PLAN, "to"), "plan.command", PLANS, CHANGING, prepare=prepare.leaver, goes_on=True, stopped=NO_PLAN),
+    Verb("joiner", (Operand("NEWUSER", "a user by name or id", USER), FOLDERS),
+         "Plans the entries and memberships that a user needs to have what another one has.",
+         (*CHOSEN, *OF_PLAN, "like"), "plan.command", PLANS, CHANGING, ("like",), prepare.joiner, goes_on=True, stopped=NO_PLAN),
     Verb("page", (Operand("EDITS", "a file of edits: the page has what they change, too", FILE, "*"),),
          "Writes one HTML page of the whole tree to look at, which needs no network.",
          (*CHOSEN, "with_root", "alone", "output"), "page.command", "--output=@output -- @folder @scripts", SHOWING,
