@@ -159,16 +159,16 @@ def entries_for(joining: Joining, found: RecordedFiles, numbers: List[int]) -> P
     return done
 
 
-class Given(NamedTuple):
+class GivenEntries(NamedTuple):
     """The entries that are given."""
 
     lines: List[bytes]
     texts: List[bytes]  # Of each kind of entry: on how many files.
 
 
-def give(joining: Joining, found: RecordedFiles, wanted: Permissions, is_default: bool) -> Given:
+def give(joining: Joining, found: RecordedFiles, wanted: Permissions, is_default: bool) -> GivenEntries:
     """Has the session give the user these entries, and returns the lines."""
-    world, marks, given = joining.world, marks_of(joining.world.session.folder), Given([], [])
+    world, marks, given = joining.world, marks_of(joining.world.session.folder), GivenEntries([], [])
     kinds: Dict[Tuple[bytes, bytes], List[int]] = {}
     for number, permissions in wanted.items():
         record = found.records[number]
@@ -201,7 +201,7 @@ def lacking_files(joining: Joining) -> Dict[bytes, str]:
     return found
 
 
-class Reasons:
+class WhyLacking:
     """Why the user may not use a file."""
 
     def __init__(self, joining: Joining, memberships: List[Membership]) -> None:
@@ -276,6 +276,6 @@ def plan_of(program: str, source: Source, word: bytes, like_word: bytes, folders
         given = [give(joining, found, entries_for(joining, found, numbers), False), give(joining, found, defaults, True)]
         check_others(world, [joining.new], joining.shown())
         texts = [*(text for it in memberships for text in it.texts(joining)), *(text for it in given for text in it.texts)]
-        rest = Reasons(joining, memberships).texts(lacking_files(joining))
+        rest = WhyLacking(joining, memberships).texts(lacking_files(joining))
         edits = text_of(joining, lines, [line for it in given for line in it.lines])
         return JobPlan(entry_of(joining.new)[2:], edits, [*texts, b"no right of anybody else changes"], [*rest])
