@@ -190,7 +190,7 @@ MEANT: Dict[str, str] = {
     "compare": "diff", "changes": "diff", "find": "audit", "findings": "audit", "fix": "audit fix", "mend": "audit fix",
     "test": "check", "edit": "plan", "restore": "undo", "revert": "undo", "rollback": "undo", "prompt": "ask",
     "record": "snapshot",
-    "html": "page", "man": "help",
+    "html": "page", "man": "help", "offboard": "leaver", "leave": "leaver", "onboard": "joiner", "join": "joiner",
 }
 
 
