@@ -1030,8 +1030,8 @@ class Lost(UserScripts):
     def removed(self, way: mock.Mock, ids: Dict[str, int]) -> Tuple[int, List[bytes]]:
         """What facl undo says where these users are there."""
         said: List[bytes] = []
-        with mock.patch.object(Command, "say", lambda _command, text: said.append(text)), mock.patch.object(
-                apply.pwd, "getpwnam", lambda name: mock.Mock(pw_uid=ids[name])):
+        with mock.patch.object(Command, "say", lambda _command, text: said.append(text)), mock.patch(
+                "pwd.getpwnam", lambda name: mock.Mock(pw_uid=ids[name])):
             return apply.say_removed(Command("facl-apply"), way), said
 
     def test_files_that_went(self) -> None:
