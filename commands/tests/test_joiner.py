@@ -7,7 +7,7 @@ import sys
 import unittest
 from unittest import mock
 
-from common import COMMANDS
+from common import COMMANDS, outside_the_gate
 from job_case import GROUP, HERE, ODD, PASSWD, JobCase, record
 
 sys.path.insert(0, COMMANDS)
@@ -106,6 +106,7 @@ class Joiner(JobCase):
                 done = self.job("joiner", word, "--like", "carl", "-q", "-o", "odd.plan")
                 self.assertEqual((done.status, len(self.by_hand("odd"))), (0, 1), done)
 
+    @outside_the_gate
     def test_many_files(self) -> None:
         self.take({b"/srv/%04d with a blank" % number: NAMED for number in range(4000)})
         self.job("joiner", "xaver", "--like", "anna", "-q")

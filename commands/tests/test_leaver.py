@@ -8,7 +8,7 @@ import unittest
 from typing import List
 from unittest import mock
 
-from common import COMMANDS
+from common import COMMANDS, outside_the_gate
 from job_case import GROUP, HERE, META, ODD, PASSWD, JobCase, record
 from verb_case import VerbCase
 
@@ -113,6 +113,7 @@ class Leaver(JobCase):
                 self.assertEqual((done.status, done.messages), (0, b""), name)
                 self.assertEqual(self.changed("odd")["/srv/hr/pay"], ["+# owner: %d" % number, "-# owner: 1001"])
 
+    @outside_the_gate
     def test_many_files(self) -> None:
         self.take({b"/srv/hr/%04d with a blank" % number: NAMED for number in range(4000)})
         done = self.job("leaver", "anna", "-q")
