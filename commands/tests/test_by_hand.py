@@ -31,7 +31,7 @@ from facl_commands.model.people import People  # noqa: E402
 from facl_commands.model.records import File  # noqa: E402
 from facl_commands.model.snapshot import Snapshot  # noqa: E402
 from facl_commands.plan import by_hand  # noqa: E402
-from facl_commands.planned import by_hand as steps, plan_folder  # noqa: E402
+from facl_commands.planned import by_hand as steps, hand_notes, plan_folder  # noqa: E402
 
 SHELLS = [shell for shell in ("dash", "bash") if shutil.which(shell)] or ["sh"]
 OWNER, OWNING_GROUP = os.geteuid(), os.getegid()  # The caller's, so that the tests need not be run by root.
@@ -48,6 +48,8 @@ cat "%s.$1" "%s.directory.$1" | awk -F : -v "key=$3" '
     END { exit found ? 0 : 2 }
 '
 """
+GONE = ("user %s: is not there, or a directory service does not answer, so userdel is not run: see that the user is removed, and put a # "
+        "before this line")
 STEFAN = b"stefan:x:20005:21000::/:/bin/sh\n"
 STAFF_OF_DIRECTORY = b"dirstaff:x:21000:stefan\n"
 
@@ -58,7 +60,7 @@ import os, signal, subprocess, sys
 sys.path.insert(0, %(commands)r)
 from facl_commands.apply import by_hand, closed_folder
 from facl_commands.base import linux, messages, new_file
-from facl_commands.planned.by_hand import Doing
+from facl_commands.planned.hand_notes import Doing
 done = []
 def sh(text):
     subprocess.run(["sh", "-c", text], cwd=%(tree)r, check=True)
@@ -211,7 +213,7 @@ class Data(unittest.TestCase):
 
     def test_notes(self) -> None:
         notes = b"1 begun 1:2:-3\n1 finished 1:2:-3\n2 found\n3 begun 1:2\nx 4\n6 begun 1:2:--3\n\n7 beg\n8 begun is cut off\n5 begun"
-        self.assertEqual(steps.Notes(notes), {1: (b"finished", Identity(1, 2, -3)), 2: (b"found", None)})
+        self.assertEqual(hand_notes.Notes(notes), {1: (b"finished", Identity(1, 2, -3)), 2: (b"found", None)})
 
 
 def snapshot_of(boot: str, inodes: Dict[bytes, Identity]) -> Snapshot:
@@ -622,7 +624,7 @@ class Exchanges(Scripts):
         """What could not be put in place is none that by_hand_undo has to take back."""
         self.write_scripts(made=self.MADE)
         self.assertEqual(self.run_patched("once(linux, 'move', lambda *_: sh(': >d/new'))").status, 1)
-        self.assertEqual({it.state for it in steps.Notes(self.read("plan/by_hand_done")).values()}, {b"undone"})
+        self.assertEqual({it.state for it in hand_notes.Notes(self.read("plan/by_hand_done")).values()}, {b"undone"})
         self.expect_run("by_hand_undo", 0)
         self.assertEqual(self.names("d"), ["gone", "new", "stays"])
 
@@ -776,7 +778,7 @@ class Cut(Scripts):
         whole = self.read("plan/by_hand_done")
         for size in range(len(whole)):
             self.write("plan/by_hand_done", whole[:size])
-            self.assertEqual(steps.Notes(whole[:size]), steps.Notes(whole[: whole.rfind(b"\n", 0, size) + 1]))
+            self.assertEqual(hand_notes.Notes(whole[:size]), hand_notes.Notes(whole[: whole.rfind(b"\n", 0, size) + 1]))
         self.make_tree()
         self.write_scripts(["d/gone"], self.MADE)
         self.write("plan/by_hand_done", b"1 finished")
@@ -861,10 +863,13 @@ class Users(UserScripts):
         self.write_scripts(people=self.changes(b"gpasswd -a ben design", b"userdel mara"))
         self.write("rows.group", GROUP.replace(b"design:x:200:mara", b"design:x:200:mara,ben"))
         self.write("rows.passwd", PASSWD.replace(b"mara", b"nell"))
-        self.expect_run("by_hand", 0, "user mara: is not there, or a directory service does not answer; userdel has nothing to do")
-        self.expect_run("by_hand", 0)
+        for _ in range(2):  # A user who is gone is never said to be removed.
+            self.expect_said("by_hand", 1, "by_hand: %s\nby_hand: left to be done in a directory service: 1\n" % GONE % "mara")
+        self.assertEqual(self.read("plan/by_hand_done"), b"1 found\n")
         self.expect_run("by_hand_undo", 0)
         self.assertEqual(self.calls(), [])
+        self.write("plan/by_hand", self.read("plan/by_hand").replace(b"\n2 userdel", b"\n# 2 userdel"))
+        self.expect_run("by_hand", 0)
 
     def test_undo(self) -> None:
         self.write_scripts(people=self.changes(b"gpasswd -a ben design", b"usermod -g 400 ben", b"useradd -u 1010 -g 400 nell",
@@ -913,7 +918,7 @@ class DirectoryServices(UserScripts):
         self.expect_run("by_hand", 1, "user stefan: has the ids (none), and not 20005:21000")
         os.unlink(self.path("plan/by_hand_done"))
         self.write_scripts(people=self.changes(b"userdel stefan"))
-        self.expect_run("by_hand", 0, "user stefan: is not there, or a directory service does not answer; userdel has nothing to do")
+        self.expect_left(GONE % "stefan")
 
     def test_the_primary_group_of_a_user_of_the_service(self) -> None:
         self.write_scripts(people=self.changes(b"usermod -g staff stefan", b"usermod -g dirstaff ben"))
@@ -971,7 +976,7 @@ class DirectoryServices(UserScripts):
         self.write("rows.directory.passwd", row)
         self.expect_left("user 4711: is of a directory service, and not of /etc/passwd, so userdel is not run: remove the user there")
         self.write("rows.directory.passwd", row.replace(b"4711", b"4712") + b"x:x:4711:100::/:/bin/sh\n")
-        self.expect_run("by_hand", 0, "user 4711: is not there, or a directory service does not answer; userdel has nothing to do")
+        self.expect_left(GONE % "4711")
         self.write("rows.passwd", PASSWD + row)
         self.expect_run("by_hand", 0)
         self.assertEqual(self.calls(), [b"userdel -- 4711"])
@@ -1008,6 +1013,26 @@ class Lost(UserScripts):
         self.expect_lost(self.REMOVED, files % ("user", 1003, "another user has now", 2), files % ("group", 200, "has no group now", 3))
         self.write("rows.passwd", PASSWD)
         self.expect_lost()
+
+    def test_facl_undo(self) -> None:
+        """It names the users whom by_hand removed and who are not there, and ends with the status 1."""
+        os.mkdir(self.path("plan"))
+        os.chmod(self.path("plan"), 0o700)
+        self.write_removal(FILE.body)
+        self.expect_run("by_hand", 0)
+        way = mock.Mock(folder=plan_folder.open_plan(os.fsencode(self.path("plan"))))
+        self.assertEqual(self.removed(way, {}), (1, [os.fsencode(self.REMOVED)]))
+        self.assertEqual(self.removed(way, {"mara": 1004}), (1, [os.fsencode(self.REMOVED)]))
+        self.assertEqual(self.removed(way, {"mara": 1003}), (0, []))
+        os.unlink(self.path("plan/by_hand_done"))
+        self.assertEqual(self.removed(way, {}), (0, []))
+
+    def removed(self, way: mock.Mock, ids: Dict[str, int]) -> Tuple[int, List[bytes]]:
+        """What facl undo says where these users are there."""
+        said: List[bytes] = []
+        with mock.patch.object(Command, "say", lambda _command, text: said.append(text)), mock.patch(
+                "pwd.getpwnam", lambda name: mock.Mock(pw_uid=ids[name])):
+            return apply.say_removed(Command("facl-apply"), way), said
 
     def test_files_that_went(self) -> None:
         self.write_scripts(["d/gone", "secret/gone", "secret"])

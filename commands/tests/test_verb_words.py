@@ -8,7 +8,7 @@ import unittest
 from typing import Dict, List, Tuple
 
 from common import COMMANDS
-from verb_case import DAY, VerbCase
+from verb_case import DAY, VerbCase, with_entry_of_nobody
 
 sys.path.insert(0, COMMANDS)
 
@@ -31,6 +31,8 @@ BASES: Dict[str, Tuple[str, str]] = {
     "check": ("rules", "facl-check OPTIONS SNAP rules"),
     "rules": ("/srv", "facl-check --write OPTIONS SNAP /srv"),
     "plan": ("edits -o made", "facl-plan OPTIONS --plan made SNAP edits"),
+    "leaver": ("4711 -o made", "facl-plan OPTIONS --plan made SNAP leaver"),
+    "joiner": ("ben --like guest -o made", "facl-plan OPTIONS --plan made SNAP joiner"),
     "apply": ("absent", "facl-apply OPTIONS absent"),
     "undo": ("absent", "facl-apply --undo OPTIONS absent"),
     "open": ("/srv/project/notes.txt guest r -o made", "facl-plan OPTIONS --plan made SNAP edits"),
@@ -104,10 +106,13 @@ class Commands(VerbCase):
         super().setUp()
         self.snap, self.old = self.stored("new"), self.stored("old", seconds=3 * DAY)
         dump = self.read("store/new/dump")
-        self.write("store/new/dump", dump.replace(b"mask::r--", b"mask::rw-"))
+        self.write("store/new/dump", with_entry_of_nobody(dump.replace(b"mask::r--", b"mask::rw-")))
         records = b"".join(it + b"\n\n" for it in dump.split(b"\n\n") if b"mask::r--" in it)
         self.write("back", b"setfacl --restore=-\n" + records + b".\n")
         self.write("moved", b"chgrp staff /srv/project/drafts/old '/srv/project/drafts/old/logo 1.svg'\n")
+        self.write("leaver", b"setfacl -n -x u:4711 /srv/project/README\n")
+        self.write("joiner", b"setfacl -n -m u:ben:r-x /srv/project/drafts\nsetfacl -n -m u:ben:r-- /srv/project/drafts/logo.svg\n"
+                   b"setfacl -n -m d:u:ben:rw- /srv/project/drafts\n")
         os.mkdir(self.path("tree"))
         for name, text in (("edits", b"setfacl -n -m u:guest:r /srv/project/notes.txt\n"), ("script", b"who r srv\n"),
                            ("rules", b"never guest read /srv/project/\n"), ("names", b"root\n"),

@@ -10,7 +10,7 @@ from typing import Dict, Iterator, List, Set, Tuple
 from unittest import mock
 
 from common import COMMANDS
-from verb_case import DAY, VerbCase
+from verb_case import DAY, VerbCase, with_entry_of_nobody
 
 sys.path.insert(0, COMMANDS)
 
@@ -50,6 +50,7 @@ SAME: Tuple[Tuple[str, str], ...] = (
     ("open %s guest r --alone -o four" % NOTES, "facl-plan --file-alone --plan four SNAP edits"),
     ("move-group /srv/project/drafts/old design staff -o five", "facl-plan --plan five SNAP moved"),
     ("restore /srv/project -s OLD -o three", "facl-plan --plan three SNAP back"),
+    ("leaver 4711 -o gone", "facl-plan --plan gone SNAP leaver"), ("joiner ben --like guest -o came", "facl-plan --plan came SNAP joiner"),
     ("page", "facl-report SNAP"), ("page edits --alone --with-root", "facl-report --file-alone --with-root SNAP edits"),
     ("review /srv/project/drafts", "facl-report --for-review --folder /srv/project/drafts SNAP"),
     ("ask script", "facl-ask SNAP script"), ("ask script script --headings", "facl-ask --headings SNAP script script"),
@@ -120,7 +121,7 @@ class Verbs(VerbCase):
         self.snap = self.stored("new")
         self.old = self.stored("old", seconds=3 * DAY)
         dump = self.read("store/new/dump")
-        self.write("store/new/dump", dump.replace(b"mask::r--", b"mask::rw-"))
+        self.write("store/new/dump", with_entry_of_nobody(dump.replace(b"mask::r--", b"mask::rw-")))
         self.write("edits", b"setfacl -n -m u:guest:r /srv/project/notes.txt\n")
         self.write("back", b"setfacl --restore=-\n" + b"".join(
             it + b"\n\n" for it in dump.split(b"\n\n") if b"mask::r--" in it) + b".\n")
@@ -129,6 +130,9 @@ class Verbs(VerbCase):
         self.write("rules", b"never guest read /srv/project/\n")
         self.write("broken", b"never mara read /srv/project/\n")
         self.write("fine", b"set-user-id /srv/project/ it is meant\n")
+        self.write("leaver", b"setfacl -n -x u:4711 /srv/project/README\n")
+        self.write("joiner", b"setfacl -n -m u:ben:r-x /srv/project/drafts\nsetfacl -n -m u:ben:r-- /srv/project/drafts/logo.svg\n"
+                   b"setfacl -n -m d:u:ben:rw- /srv/project/drafts\n")
         self.write("script", b"who --reach w /srv/project/notes.txt\nfrob\n")
 
     def test_each_says_what_its_command_says(self) -> None:

@@ -24,6 +24,13 @@ def ago(seconds: float) -> str:
     return time.strftime(DATE, time.gmtime(time.time() - seconds))
 
 
+def with_entry_of_nobody(dump: bytes) -> bytes:
+    """The dump of the snapshot, with an entry of an id that has no user."""
+    plain = b"# file: /srv/project/README\n# owner: 1001\n# group: 100\nuser::rw-\ngroup::r--\n"
+    assert plain in dump
+    return dump.replace(plain, plain.replace(b"group::r--\n", b"user:4711:r--\ngroup::r--\nmask::r--\n"))
+
+
 class VerbCase(Case):
     """A test with a store in its folder."""
 

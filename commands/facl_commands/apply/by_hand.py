@@ -13,11 +13,13 @@ from ..base.live import Opener
 from ..base.messages import Command, Failure, Interrupted
 from ..base.names import live_name, parent_of
 from ..planned import by_hand, plan_folder
-from ..planned.by_hand import BEGUN, FINISHED, UNDONE, Doing, FileStep, Note, PeopleStep, Steps
+from ..planned.by_hand import FileStep, PeopleStep, Steps, line_of
+from ..planned.hand_notes import BEGUN, FINISHED, UNDONE, Doing, Note
 from ..planned.plan_files import NOWHERE, Devices
 from . import hand_users
 from .carrying import OFTEN, Mismatch, change, fault_of, waiting_signals
 from .closed_folder import ClosedFolder, closed_in, entries_of, left_in
+from .name_service import tool_of
 
 NOT_DONE = 1
 LEFT = b"; a folder %s is left there by a run that was killed: move back what is in it, and remove it"
@@ -80,7 +82,7 @@ class HandFiles:
             self.doing.add(end, it.number)
             return
         self.check_file(it, folder, name)
-        self.doing.tell(it)
+        self.doing.tell(line_of(it))
         with closed_in(folder, self.doing.command, path) as closed:
             closed.take(name)
             try:
@@ -100,7 +102,7 @@ class HandFiles:
                 raise Mismatch(b"is there already")
         else:
             for it in tree:
-                self.doing.tell(it)
+                self.doing.tell(line_of(it))
             with closed_in(folder, self.doing.command, path) as closed:
                 try:
                     self.fill(closed, tree, len(path) - len(name))
@@ -177,7 +179,7 @@ def body(command: Command, words: List[str]) -> int:
     doing = Doing(command, plan)
     for it in found.people if not is_undo else []:
         if it.number in wanted:
-            hand_users.tool_of(it.change.tool())
+            tool_of(it.change.tool())
     try:
         for text in run(found, doing, wanted, is_undo):
             command.say(text)

@@ -13,7 +13,8 @@ from ..base import live
 from ..base.acl_bytes import Record
 from ..base.live import Seen
 from ..base.messages import SIGNALS, Command, Failure, counted, parser_of, reason, signals_wait
-from ..base.names import live_name, path_order, shell_word
+from ..base.names import live_name, path_order, shell_word, write_name
+from ..base.user_tools import User
 from ..model import meta
 from ..planned import by_hand as planned_by_hand
 from ..planned import differences, plan_files, plan_folder
@@ -35,7 +36,7 @@ others do to its name, no other file is changed. What it does not do is in PLAN/
 """
 STATUS = """\
 The exit status is 0 where it is done, and 3 where there is nothing to do; 1 where it is not done, and the files are
-as they were; 2 where the words, the plan or the system do not allow it, and nothing was changed; 4 where files are
+as they were, or where --undo cannot bring a user back; 2 where the words, the plan or the system do not allow it, and nothing was changed; 4 where files are
 neither as they were nor as they should be: they are named; 5 where it is done, and that could not be written.
 """
 
@@ -179,6 +180,21 @@ def say_without_row(command: Command, records: List[Record]) -> None:
                             + b" to the %s id %d, which has no %s now" % (kind, number, kind))
 
 
+def say_removed(command: Command, way: Direction) -> int:
+    """Names the users whom by_hand has removed, and who are not there again. Returns how many."""
+    gone = [it for it in planned_by_hand.removed_users(way.folder) if not is_there(it)]
+    for it in gone:
+        command.say(b"user " + write_name(it.name) + b": was removed by by_hand, and does not come back")
+    return len(gone)
+
+
+def is_there(user: User) -> bool:
+    try:
+        return pwd.getpwnam(os.fsdecode(user.name)).pw_uid == user.uid
+    except KeyError:
+        return False
+
+
 def by_hand(way: Direction) -> List[bytes]:
     """The line that names what is to be done by hand, where there is something. It is made before anything is touched:
     a script that cannot be read has no part in what is said of the files."""
@@ -229,4 +245,5 @@ def body(command: Command, words: List[str]) -> int:
         command.tell(line)
     if status == DONE and way.is_undo:
         say_without_row(command, [way.end(path) for path in carrier.seen])
+        return NOT_DONE if say_removed(command, way) else DONE
     return status

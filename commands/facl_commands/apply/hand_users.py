@@ -2,73 +2,24 @@
 /etc/group alone."""
 from __future__ import annotations
 
-import os
-import shutil
 import signal
 import subprocess
-from typing import Iterator, NamedTuple, Optional, Tuple
+from typing import Iterator
 
 from ..base.messages import SIGNALS, Failure, signals_wait
 from ..base.names import write_name
-from ..base.programs import environment_of_called
 from ..base.user_tools import ADD_MEMBER, ADD_USER, MEMBERSHIPS, REMOVE_USER, PeopleChange
-from ..planned.by_hand import BEGUN, FINISHED, FOUND, UNDONE, Doing, PeopleStep
+from ..planned.by_hand import PeopleStep, line_of
+from ..planned.hand_notes import BEGUN, FINISHED, FOUND, UNDONE, Doing
 from .carrying import Mismatch
+from .name_service import ENVIRONMENT, NOT_FOUND, Row, getent, look_up, row_with, tool_of
 
-NOT_FOUND = 2  # The status of getent where there is no such row.
-ENVIRONMENT = {**environment_of_called(), "LC_ALL": "C", "PATH": os.environ.get("PATH", os.defpath) + ":/usr/sbin:/sbin"}
-Ids = Tuple[bytes, bytes]  # UID and GID of a user, GID and MEMBERS of a group.
-
-
-class Row(NamedTuple):
-    """What the name service has of a name, and what /etc/passwd or /etc/group has."""
-
-    found: Optional[Ids]
-    local: Optional[Ids]
-
-    def is_local(self) -> bool:
-        return self.local is not None and self.found is not None and self.local[0] == self.found[0]
+GONE = (b"user %s: is not there, or a directory service does not answer, so userdel is not run: see that the user is removed, and "
+        b"put a # before this line")
 
 
 class OfService(Mismatch):
     """What has to be done in a directory service."""
-
-
-def tool_of(name: bytes) -> bytes:
-    found = shutil.which(os.fsdecode(name), path=ENVIRONMENT["PATH"])
-    if found is None:
-        raise Failure(name + b": is not installed", 1)
-    return os.fsencode(found)
-
-
-def getent(*words: bytes) -> Tuple[int, bytes]:
-    done = subprocess.run([tool_of(b"getent"), *words], stdout=subprocess.PIPE, env=ENVIRONMENT, check=False)
-    return done.returncode, done.stdout
-
-
-def row_by(name: bytes, *words: bytes, key: Tuple[bytes, ...] = ()) -> Optional[Ids]:
-    """The row of a name in what getent prints; of a key there may be none."""
-    status, text = getent(*words, *key)
-    if status not in (0, NOT_FOUND if key else 0):
-        raise Failure(b"getent " + b" ".join(words) + b" fails", 1)
-    rows = [line.split(b":") for line in text.splitlines()]
-    return next(((it[2], it[3]) for it in rows if it[0] == name and len(it) > 3), None)
-
-
-def look_up(database: bytes, name: bytes, number: int) -> Row:
-    """Looks up the one name, as a directory service may list nobody. getent takes a name of digits for an id: then it looks up
-    the id, and the name is compared."""
-    local = row_by(name, b"-s", b"files", database)
-    return Row(row_by(name, database, key=(b"--", b"%d" % number if name.isdigit() else name)) or local, local)
-
-
-def row_with(database: bytes, name: bytes, number: int) -> Row:
-    """The row of a name, which has to have this id."""
-    row = look_up(database, name, number)
-    if row.found is None or row.found[0] != b"%d" % number:
-        noun = {b"passwd": b"user ", b"group": b"group "}[database]
-        raise Mismatch(noun + write_name(name) + b": is not there with the id %d" % number)
-    return row
 
 
 def is_member_made(change: PeopleChange, group: Row) -> bool:
@@ -120,17 +71,16 @@ def run_tool(change: PeopleChange) -> int:
 def do(doing: Doing, it: PeopleStep, is_undo: bool) -> None:
     """Makes a change. What is made already, and was not begun, somebody else did: by_hand_undo leaves it."""
     state, is_done = doing[it.number].state, is_made(it.change)
+    if is_done and it.change.kind == REMOVE_USER and not state:
+        raise OfService(GONE % write_name(it.change.user.name))
     if not is_done:
-        doing.tell(it)
+        doing.tell(line_of(it))
         doing.add(BEGUN, it.number)
         status = run_tool(it.change)
         if status != 0 and is_undo:
             raise Mismatch(it.command() + b": fails")
         if status != 0:
             raise Failure(it.command() + b": fails with the status %d" % status, abs(status))
-    elif it.change.kind == REMOVE_USER and not state:
-        doing.command.say(b"user " + write_name(it.change.user.name) + b": is not there, or a directory service does not "
-                          b"answer; userdel has nothing to do")
     end = UNDONE if is_undo else FOUND if is_done and state != BEGUN else FINISHED
     if end != state:
         doing.add(end, it.number)

@@ -15,6 +15,7 @@ USER, GROUP, MASK, OTHER = b"user", b"group", b"mask", b"other"
 PLAIN_NAME = re.compile(rb"[A-Za-z_][A-Za-z0-9_.-]*\Z")
 LETTERS = (b"r", b"w", b"x")
 NOTHING = b"---"  # Of permissions, and of flags.
+CUT = b" (the mask leaves %s)"  # What a person reads after an entry.
 MOST_KEPT = 1 << 16  # Records that were read: most snapshots have fewer, and some a million, for which there is no memory.
 Key = Tuple[bytes, bytes]  # The tag, and the id where it names one, or the name as the program prints it.
 OWNER_KEY, OWNING_GROUP_KEY, OTHER_KEY, MASK_KEY = (USER, b""), (GROUP, b""), (OTHER, b""), (MASK, b"")

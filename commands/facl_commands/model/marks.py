@@ -10,10 +10,10 @@ from ..base import beside
 from ..base.folders import folder_of
 from ..base.messages import counted
 from ..base.names import at_or_below, directories_above, highest, parent_of, read_path
-from ..program.protocol import LIST_ALL, LIST_NUMBERS, RESTORE
-from ..program.session import Session, parts_of
+from ..program.protocol import LIST_ALL, LIST_NUMBERS
+from ..program.session import Session
 from . import meta, sources, split_tree
-from .records import ChangedPaths, File, list_slices, list_words, write_record
+from .records import ChangedPaths, list_slices, list_words, restore
 
 # What is said of a file.
 TEXTS = {
@@ -172,9 +172,7 @@ def find_unwritable(session: Session, marks: Marks, folders: List[bytes]) -> Unw
 
 def give(session: Session, found: Unwritable, body_of: Callable[[bytes], bytes] = bytes) -> None:
     """Has the files be as their records say, or as these are changed."""
-    records = (write_record(path, File(False, body_of(body))) for path, body in found.bodies.items())
-    for part in parts_of(records, ROOM):
-        session.ask_accepted(RESTORE + b"\n" + b"".join(part) + b".")
+    restore(session, ((path, body_of(body)) for path, body in found.bodies.items()))
 
 
 @contextlib.contextmanager

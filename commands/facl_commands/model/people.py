@@ -2,6 +2,7 @@
 the superuser, to whom the kernel grants nearly everything whatever a list says."""
 from __future__ import annotations
 
+import difflib
 from typing import Dict, Iterable, Iterator, List, NamedTuple, Optional, Set, Tuple, TypeVar
 
 from ..base.accounts import SUPERUSER
@@ -77,6 +78,22 @@ def needed_word(users: Iterable[User], name: bytes, said: bytes) -> bytes:
 def is_named(name: bytes, number: int, word: bytes, is_name: bool = False) -> bool:
     """Whether a row is meant by a word; digits alone are an id, unless the word can only be a name."""
     return number == number_of(word) if word.isdigit() and not is_name else name == word
+
+
+def user_by(users: Iterable[User], word: bytes) -> Optional[User]:
+    """The user whom a word of a person means: digits alone are an id, which is that of the first user who has it."""
+    known = list(users)
+    return next((user for name in (word, read_name(word)) for user in known
+                 if is_named(user.name, user.uid, name, is_name=not word.isdigit())), None)
+
+
+def no_user(users: Iterable[User], word: bytes) -> Failure:
+    """Says that a word means no user, and who may be meant."""
+    if word.isdigit():
+        return Failure(word + b": no user of the snapshot has this id")
+    near = difflib.get_close_matches(word.decode("latin-1"), [user.name.decode("latin-1") for user in users])
+    names = b", ".join(write_user(name.encode("latin-1")) for name in near)
+    return Failure(word + b": no such user in the snapshot" + (b"; did you mean " + names + b"?" if near else b""))
 
 
 def meant(rows: Iterable[Row], word: bytes) -> Row:

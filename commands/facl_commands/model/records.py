@@ -6,8 +6,12 @@ from typing import Dict, Iterable, Iterator, List, NamedTuple, Tuple
 
 from ..base.messages import Failure
 from ..base.names import parent_of, path_word, read_path, sorting_key, write_name
-from ..program.protocol import DEFAULT_ENTRY, FILE_HEAD, LIST_ALL, ONLY_DIRECTORIES, SET_DEFAULT, has_text, lacks_file
-from ..program.session import OutputSlice, Session, cut
+from ..program.protocol import (
+    DEFAULT_ENTRY, FILE_HEAD, LIST_ALL, ONLY_DIRECTORIES, RESTORE, SET_DEFAULT, has_text, lacks_file,
+)
+from ..program.session import OutputSlice, Session, cut, parts_of
+
+RECORDS_ROOM = 1 << 24  # Bytes of records that a session is given at once.
 
 
 class File(NamedTuple):
@@ -148,6 +152,13 @@ def list_all(session: Session, top: bytes = b"") -> Listing:
     """The files as they are now, a directory and those below it; none where it is not there, and so where the root was
     removed, which removes all."""
     return list_slices(list_words(session, [path_word(top)]))
+
+
+def restore(session: Session, bodies: Iterable[Tuple[bytes, bytes]]) -> None:
+    """Has files, each by its path, be as the lines of these records say."""
+    records = (write_record(path, File(False, body)) for path, body in bodies)
+    for part in parts_of(records, RECORDS_ROOM):
+        session.ask_accepted(RESTORE + b"\n" + b"".join(part) + b".")
 
 
 def compare(old: Files, new: Files) -> ChangedPaths:

@@ -1,29 +1,23 @@
-"""What facl-apply does not do of a plan: the file `steps`, as facl-plan writes it; the lines of by_hand and by_hand_undo, which
-a person reads; and by_hand_done, in which by_hand notes what it does.
+"""What facl-apply does not do of a plan: the file `steps`, as facl-plan writes it; and the lines of by_hand and by_hand_undo, which
+a person reads.
 
 A step has a number, from 1 in the order in which they are done: changes of users and groups, files that go, files that are
-made. A line is the number and a command; a person puts a # before one that is not to be done. A note is a line `NUMBER STATE`,
-and of what is made `DEVICE:INODE:BIRTH` may follow. """
+made. A line is the number and a command; a person puts a # before one that is not to be done. """
 from __future__ import annotations
 
 import json
-import os
-import re
 from typing import Any, Dict, List, NamedTuple, Optional, Set, Union
 
-from ..base import new_file, trusted
 from ..base.acl_bytes import NO_ID, Record
 from ..base.linux import Identity
-from ..base.messages import Command, Failure, reason
+from ..base.messages import Failure
 from ..base.names import live_name, parent_of, path_order, shell_word, shown
-from ..base.user_tools import KINDS, PeopleChange, User, shown_change
+from ..base.user_tools import KINDS, REMOVE_USER, PeopleChange, User, shown_change
+from .hand_notes import FINISHED, FOUND, notes_of
 from .plan_files import as_written, fields_of, identities_of, is_path, number_of, read_record
-from .plan_folder import DONE_BY_HAND, PlanFolder
+from .plan_folder import PlanFolder
 
 STEPS, SCRIPTS = b"steps", (b"by_hand", b"by_hand_undo")
-FINISHED, FOUND, BEGUN, UNDONE = b"finished", b"found", b"begun", b"undone"
-NOTE = re.compile(rb"^(\d{1,18}) (finished|found|begun|undone)(?: (-?\d{1,20}):(-?\d{1,20}):(-?\d{1,20}))?\n", re.MULTILINE)
-CUT_OFF = b" is cut off\n"  # What ends a note that was cut off, so that it is none.
 
 
 class PeopleStep(NamedTuple):
@@ -174,69 +168,17 @@ def chosen(folder: PlanFolder, steps: Steps, is_undo: bool) -> Set[int]:
 # --- what is done
 
 
-class Note(NamedTuple):
-    state: bytes = b""
-    identity: Optional[Identity] = None
-
-    def is_ours(self) -> bool:
-        """Whether by_hand has done it, and did not find it done already."""
-        return self.state in (BEGUN, FINISHED)
-
-
-class Notes(Dict[int, Note]):
-    """The last note of each step, by its number."""
-
-    def __init__(self, text: bytes) -> None:
-        super().__init__({int(number): Note(state, Identity(*map(int, its)) if its[0] else None)
-                          for number, state, *its in NOTE.findall(text)})
-
-    def __missing__(self, _number: int) -> Note:
-        return Note()
-
-
-class Doing(Notes):
-    """The notes of a plan, to which a command adds what it does."""
-
-    def __init__(self, command: Command, folder: PlanFolder) -> None:
-        self.command = command
-        if not folder.has(DONE_BY_HAND):
-            os.close(new_file.create(DONE_BY_HAND, folder.descriptor))
-        mark = trusted.open_mark(folder.descriptor, folder.name, DONE_BY_HAND)
-        if trusted.has_list(mark):
-            raise trusted.mark_failure(folder.name, DONE_BY_HAND, b"has an ACL")
-        text = folder.read(DONE_BY_HAND)
-        super().__init__(text)
-        self.file = os.open(b"/proc/self/fd/%d" % mark, os.O_WRONLY | os.O_APPEND | os.O_CLOEXEC)
-        self.start = b"" if text[-1:] in (b"", b"\n") else CUT_OFF
-        os.close(mark)
-
-    def tell(self, it: Step) -> None:
-        """Says a step before it is done."""
-        self.command.tell(line_of(it))
-        self.command.flush()
-
-    def add(self, state: bytes, *numbers: int) -> None:
-        """Notes a state of some steps, with their identities as far as these are known; what is begun is on the disk before it
-        is done."""
-        notes = {number: self[number]._replace(state=state) for number in numbers}
-        text = self.start + b"".join(b"%d %s" % (number, state) + (b" %d:%d:%d" % it.identity if it.identity else b"") + b"\n"
-                                     for number, it in notes.items())
-        try:
-            if os.write(self.file, text) < len(text):
-                raise OSError(0, "is cut off")
-            if state == BEGUN:
-                os.fdatasync(self.file)
-        except OSError as error:
-            raise Failure(DONE_BY_HAND + b": cannot be written: " + reason(error), 1) from error
-        self.start = b""
-        self.update(notes)
+def removed_users(folder: PlanFolder) -> List[User]:
+    """The users whom by_hand has removed."""
+    notes = notes_of(folder)
+    return [it.change.user for it in steps_of(folder).people if it.change.kind == REMOVE_USER and notes[it.number].is_ours()]
 
 
 def is_left(folder: PlanFolder, is_undo: bool) -> bool:
     """Whether by_hand has something that is not done yet, where what is made in a tree is done with the tree; or by_hand_undo
     something that by_hand has done and that is not taken back."""
     found = steps_of(folder)
-    notes, wanted = Notes(folder.read(DONE_BY_HAND) if folder.has(DONE_BY_HAND) else b""), chosen(folder, found, is_undo)
+    notes, wanted = notes_of(folder), chosen(folder, found, is_undo)
     if is_undo:
         return any(notes[number].is_ours() for number in wanted)
     inner = {it.number for it in found.of(True)} - found.trees(wanted).keys()

@@ -100,7 +100,7 @@ RESTORE = b"setfacl --restore=-"  # The records are its text.
 SET_LIST = b"setfacl -n --set=%s --"
 SET_DEFAULT = b"setfacl --test -m d:u::rwx --"  # Whether a file is taken for a directory.
 ENTRIES_OF, INDEX, ATTRIBUTES_OF = b"why --", b"index", b"attr %d"
-GAINS, GAINS_ALONG_PATHS = b"gains", b"gains --reach"
+GAINS, GAINS_ALONG_PATHS, CHANGES = b"gains", b"gains --reach", b"changes"
 NOT_THERE = b"--"  # Of a user or a file, in a line of their answer.
 BELOW, MAY, CAN, WHO = b"below", b"may", b"can", b"who"
 ALL_OF = b"may -- %s 0"  # All files: each alone grants any user the request for nothing.

@@ -100,6 +100,8 @@ ALL: Tuple[VerbOption, ...] = (
                command="--weight"),
     VerbOption(("-e", "--edit"), "a line of edits, in the place of EDITS; it may come several times", "LINE",
                is_repeated=True),
+    VerbOption(("--to",), "who gets the files of the user who leaves", "HEIR", USER),
+    VerbOption(("--like",), "the user whose entries and memberships are given", "USER", USER),
     VerbOption(("--full",), "print each change of each user's rights, and not a summary", command="--full"),
     VerbOption(("--keep-going",), "plan the other lines where some were refused", command="--keep-going"),
     VerbOption(("--readers",), "let the members of GROUP read what is written", "GROUP", GROUP, command="--readers"),

@@ -3,7 +3,7 @@ from __future__ import annotations
 
 import argparse
 import os
-from typing import Iterable
+from typing import TYPE_CHECKING, Iterable
 
 from ..base import scratch
 from ..base.messages import Command, Failure
@@ -13,8 +13,13 @@ from ..jobs.notes import JobNote
 from ..model import choice, meta, sources
 from ..model.entries import perms
 from ..model.snapshot import check_texts
+from ..model.sources import Source
 from . import store
 
+if TYPE_CHECKING:
+    from ..jobs.of_user import JobPlan
+
+REMAINS = 1  # The status where a job leaves something to be done.
 EDITS = "edits"  # What a plan is named by, where its lines are in no file.
 NOTHING_TO_DO = 3  # As facl-plan ends.
 LONGEST_NAME = 200  # Characters in the name of a plan.
@@ -157,6 +162,40 @@ def open_file(command: Command, given: argparse.Namespace) -> None:
         job = opening(Wanted(world, user, path, perms(letters), given.alone))
     name_plan(given, "open", given.file)
     take_job(command, given, job.edits, job.notes)
+
+
+def leaver(command: Command, given: argparse.Namespace) -> None:
+    """Takes the lines for a user who leaves."""
+    from ..jobs import leaver as job  # As few verbs need it, and a program.
+
+    choose(command, given)
+    heir = None if given.to is None else os.fsencode(given.to)
+    take_user_job(command, given, "leaver", job.plan_of(find_program(given), source_of(given), os.fsencode(given.user), heir))
+
+
+def joiner(command: Command, given: argparse.Namespace) -> None:
+    """Takes the lines that give a user what another one has."""
+    from ..jobs import joiner as job
+
+    choose(command, given)
+    new, like = map(os.fsencode, (given.newuser, given.like))
+    take_user_job(command, given, "joiner", job.plan_of(find_program(given), source_of(given), new, like, given.folders))
+
+
+def source_of(given: argparse.Namespace) -> Source:
+    return Source(given.stored.folder, given.stored.name, False)
+
+
+def take_user_job(command: Command, given: argparse.Namespace, name: str, found: JobPlan) -> None:
+    """Has facl-plan make a plan of a job; what it leaves to be done is said after the plan, and the status is 1 then."""
+    def after(status: int) -> int:
+        for text in [*([] if given.quiet else found.said), *found.left]:
+            command.say(text)
+        return REMAINS if found.left else status
+
+    take_edits(given, found.edits)
+    given.output = given.output or "%s-%s.plan" % (name, os.fsdecode(found.about))
+    given.after = after
 
 
 def ask(command: Command, given: argparse.Namespace) -> None:

@@ -157,6 +157,14 @@ VERBS: Tuple[Verb, ...] = (
          ("dry_run", "leave_changed", "drop_capabilities"), "apply.command", "--undo --dry-run?dry_run -- @plan",
          CHANGING,
          prepare=prepare.nothing, goes_on=True, stopped="all files get their old ACLs back before it ends"),
+    Verb("leaver", (Operand("USER", "a user by name or id", USER),),
+         "Plans what takes a user away: entries, files, memberships and the account; says what remains.",
+         (*CHOSEN, *PLANNED, "to"), "plan.command",
+         "--plan=@output -- @folder @scripts", CHANGING, prepare=prepare.leaver, goes_on=True, stopped=NO_PLAN),
+    Verb("joiner", (Operand("NEWUSER", "a user by name or id", USER), FOLDERS),
+         "Plans the entries and memberships that a user needs to have what another one has.",
+         (*CHOSEN, *PLANNED, "like"), "plan.command",
+         "--plan=@output -- @folder @scripts", CHANGING, ("like",), prepare.joiner, goes_on=True, stopped=NO_PLAN),
     Verb("page", (Operand("EDITS", "a file of edits: the page has what they change, too", FILE, "*"),),
          "Writes one HTML page of the whole tree to look at, which needs no network.",
          (*CHOSEN, "with_root", "alone", "output"), "page.command", "--output=@output -- @folder @scripts", SHOWING,
@@ -198,6 +206,7 @@ MEANT: Dict[str, str] = {
     "test": "check", "edit": "plan", "revert": "undo", "rollback": "undo", "prompt": "ask",
     "record": "snapshot",
     "html": "page", "man": "help", "grant": "open", "allow": "open", "chgrp": "move-group",
+    "offboard": "leaver", "leave": "leaver", "onboard": "joiner", "join": "joiner",
 }
 
 

@@ -10,7 +10,7 @@ from ..base.names import json_text, path_word, shown
 from ..base.programs import find_program
 from ..base.tables import Column, Table, paged, write_json, write_table
 from ..model import choice, overview, split_tree
-from ..model.entries import Entries, entries_of
+from ..model.entries import CUT, Entries, entries_of
 from ..model.everybody import world_of
 from ..model.records import asks_as_directory, body_of, name_of, path_of
 from ..model.rules_of_lists import grants_search
@@ -20,7 +20,6 @@ from ..questions.who.asking import Asker
 
 SCHEMA = "facl-why/1"
 SOMETHING, NOTHING = 0, 1
-CUT = b" (the mask leaves %s)"
 CLOSED = b"no search permission here: nothing below is reached"
 COLUMNS = (Column("FILE"), Column("ENTRY"), Column("NOTE"))
 WORDS = {"r": b"read", "w": b"write", "x": b"execute"}

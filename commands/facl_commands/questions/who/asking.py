@@ -4,7 +4,6 @@ from __future__ import annotations
 
 import argparse
 import contextlib
-import difflib
 import re
 from typing import Dict, Iterable, Iterator, List, NamedTuple, Optional, Sequence, Tuple
 
@@ -16,7 +15,7 @@ from ...model.entries import OTHER_KEY, OWNER_KEY, OWNING_GROUP_KEY, Entry, entr
 from ...model.everybody import SHOWN, World, beside
 from ...model.label_answers import ask_records
 from ...model.marks import NO_MARKS, Unwritable, find_unwritable, marks_of, without_write
-from ...model.people import is_named, needed_word, user_word
+from ...model.people import needed_word, no_user, user_by, user_word
 from ...program.protocol import EFFECTIVE, ENTRIES_OF, LIST_NAMES
 from ...program.tools import REACH
 
@@ -127,19 +126,14 @@ class Asker:
     def user_of(self, word: bytes, has_row: bool = False) -> NamedUser:
         """The user whom the program takes a word for: digits alone are an id, which is that of the first user who has it.
         Where a row is needed, the program can be asked about the user."""
-        for name in (word, read_name(word)):
-            for user in self.users:
-                if is_named(user.name, user.uid, name, is_name=not word.isdigit()):
-                    if has_row:
-                        needed_word(self.users, user.name, word)
-                    return NamedUser(write_user(user.name), user.uid)
+        user = user_by(self.users, word)
+        if user is not None:
+            if has_row:
+                needed_word(self.users, user.name, word)
+            return NamedUser(write_user(user.name), user.uid)
         if word.isdigit() and not has_row:
             return NamedUser(word, number_of(word))
-        if word.isdigit():
-            raise Failure(word + b": no user of the snapshot has this id")
-        near = difflib.get_close_matches(word.decode("latin-1"), [user.name.decode("latin-1") for user in self.users])
-        names = b", ".join(write_user(name.encode("latin-1")) for name in near)
-        raise Failure(word + b": no such user in the snapshot" + (b"; did you mean " + names + b"?" if near else b""))
+        raise no_user(self.users, word)
 
     def anybody(self, word: bytes) -> NamedUser:
         """A user whom the program can be asked about, or everybody else."""
