@@ -29,7 +29,6 @@ COUNTED = {beside.IMMUTABLE: "immutable file", beside.APPEND_ONLY: "append-only 
 OTHERS = {beside.NFS4_LIST: b"NFSv4", beside.RICH_LIST: b"rich lists", beside.SAMBA_LIST: b"Samba"}  # Lists by kinds.
 
 WRITES = re.compile(rb"^((?:user|group|mask|other):[0-9]*:[r-])w", re.MULTILINE)  # In a record with ids as numbers.
-ROOM = 1 << 24  # Bytes of records that are given back at once.
 NOUNS = {beside.IMMUTABLE: ("immutable file", ""),
          beside.READ_ONLY: ("file on a read-only file system", "files on read-only file systems")}
 
