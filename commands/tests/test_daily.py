@@ -316,7 +316,7 @@ class Faults(Daily):
         self.write("rules", b"never nobody read /\n")
         done = self.daily()
         self.assertEqual((done.status, self.kept()), (2, ["DAY", "made.by-facl-daily"]))
-        self.assertIn(b"rules, line 1: word 2: no such user in the snapshot\n", done.out)
+        self.assertIn(b"rules, line 1: word 2: no such user in the snapshot: write a name or an id of its passwd\n", done.out)
 
     def test_mail_that_cannot_be_sent(self) -> None:
         self.write("stubs/broken", b"")

@@ -416,7 +416,7 @@ class Tools(Case):
 
     def test_what_others_lose(self) -> None:
         self.change("README.md", "`getfacl`, ", "`getfatcl`, ")
-        self.change(RECORDS_PATH, 'option("-x --remove", ENTRIES), ', 'option("-x --remove"), ')
+        self.change(RECORDS_PATH, 'option("-x --remove", ENTRIES),', 'option("-x --remove"),')
         self.change(RECORDS_PATH, 'option("-X --remove-file", TEXT)', 'option("-X --remove-file", OTHER)')
         self.change(RECORDS_PATH, 'Tool(b"userdel"', 'Tool(b"deluser"')
         self.change(RECORDS_PATH, '"USER FILE..", BY_REACH', '"USER FILE", BY_REACH')
