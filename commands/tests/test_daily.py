@@ -156,11 +156,11 @@ class Week(Daily):
         os.chmod(os.path.join(self.tree, "file"), 0o646)
         lines = self.daily().out.decode().splitlines()
         first = next(place for place, line in enumerate(lines) if line.startswith("== changes since ")) + 1
-        for place, pattern in enumerate(("BEFORE +AFTER +WHO +FILES ", "r-- +rw- +everybody else +1 ", "r-- +rw- +anna +1 ")):
+        for place, pattern in enumerate(("WHO +WHAT +MORE +GAINED ", "everybody else and anna +others' entry changed +1 +-w- +0 ")):
             self.assertRegex(lines[first + place], "^" + pattern)
         os.chmod(os.path.join(self.tree, "file"), 0o640)
         text = self.daily("--fail-on", "none").out.decode()
-        self.assertEqual(re.findall(r"^rw- +none +(everybody else|anna) ", text, re.MULTILINE), ["everybody else", "anna"])
+        self.assertRegex(text, "\neverybody else and anna +others' entry changed +0 +1 +rw- ")
         os.chmod(os.path.join(self.tree, "file"), 0o600)
         self.assertNotIn(b"everybody else", self.daily("--fail-on", "none").out)
 

@@ -29,7 +29,7 @@ class MoveJob(NamedTuple):
     notes: List[JobNote]
 
 
-class Change(NamedTuple):
+class GroupChange(NamedTuple):
     """What becomes of a record: its new group, if it gets one, and its entries of the new group, by the lists that have the old
     one."""
 
@@ -50,7 +50,7 @@ def group_of(people: People, word: bytes, has_row: bool = True) -> Group:
     raise Failure(word + b": no such group in the snapshot")
 
 
-def change_of(body: bytes, old: int, new: int) -> Change:
+def change_of(body: bytes, old: int, new: int) -> GroupChange:
     """A record with a group in the place of another one; what an entry of it had before is added."""
     record, lists = read_record(body), lists_of(body)
     present = {found[1] or b"": found[2] for found in re.finditer(ENTRY % new, lists, re.MULTILINE)}
@@ -68,19 +68,19 @@ def change_of(body: bytes, old: int, new: int) -> Change:
     is_owning = record.group == b"%d" % old
     head = head_lines(record.owner, b"%d" % new if is_owning else record.group, record.flags)
     lists = re.sub(ENTRY % new, moved, kept, flags=re.MULTILINE)
-    return Change(is_owning, {b"d:" * bool(begin): its for begin, its in entries.items()}, len(gone.keys() & present), head + lists)
+    return GroupChange(is_owning, {b"d:" * bool(begin): its for begin, its in entries.items()}, len(gone.keys() & present), head + lists)
 
 
-def needs_record(file: File, change: Change) -> bool:
+def needs_record(file: File, change: GroupChange) -> bool:
     """Whether chgrp would take flags of a plain file, which stay."""
     return change.is_owning and not file.is_directory and b"s" in read_record(file.body).flags
 
 
-class Moves(NamedTuple):
+class GroupMoves(NamedTuple):
     """The files that change, with what becomes of each."""
 
     files: Files
-    changes: Dict[bytes, Change]  # By path.
+    changes: Dict[bytes, GroupChange]  # By path.
     old: Group
     new: Group
     is_whole: bool
@@ -94,7 +94,7 @@ class Moves(NamedTuple):
         return b"%d" % group.gid if word.startswith(b"-") else word
 
 
-def lines_of(moves: Moves, other_names: Set[bytes]) -> Iterator[bytes]:
+def lines_of(moves: GroupMoves, other_names: Set[bytes]) -> Iterator[bytes]:
     """A line for all files of which the same becomes, or several where one has no room; names of one file but the first, which have
     what it gets, are in none."""
     lines: Dict[bytes, List[bytes]] = {}
@@ -117,7 +117,7 @@ def lines_of(moves: Moves, other_names: Set[bytes]) -> Iterator[bytes]:
         yield RESTORE + b"\n" + write_records(text, text) + b".\n"
 
 
-def summary_of(moves: Moves) -> bytes:
+def summary_of(moves: GroupMoves) -> bytes:
     """How much is moved."""
     counts = Counter(kind for it in moves.changes.values()
                      for kind in [*[OWNING] * it.is_owning, *(DEFAULT if begin else ACCESS for begin in it.entries)])
@@ -126,7 +126,7 @@ def summary_of(moves: Moves) -> bytes:
     return b"%s from %s to %s" % (b", ".join(parts), write_user(moves.old.name), write_user(moves.new.name))
 
 
-def notes_of(moves: Moves, people: People) -> Iterator[JobNote]:
+def notes_of(moves: GroupMoves, people: People) -> Iterator[JobNote]:
     """Entries that become one; who is in the old group alone; programs that run for another group."""
     old, new = write_user(moves.old.name), write_user(moves.new.name)
     merged = [path for path, it in moves.changes.items() if it.merged]
@@ -154,8 +154,8 @@ def moving(program: str, folder: bytes, words: List[bytes]) -> MoveJob:
     old, new = group_of(people, words[1], has_row=False), group_of(people, words[2])
     if old.gid == new.gid:
         raise Failure(b"%s and %s: are one group, with the id %d" % (words[1], words[2], old.gid))
-    known: Dict[bytes, Change] = {}
-    found: Dict[bytes, Change] = {}
+    known: Dict[bytes, GroupChange] = {}
+    found: Dict[bytes, GroupChange] = {}
     for path in sorted(files, key=sorting_key):
         body = files[path].body
         change = known.get(body)
@@ -165,6 +165,6 @@ def moving(program: str, folder: bytes, words: List[bytes]) -> MoveJob:
             found[path] = change
     if not found:
         return MoveJob(b"", write_user(old.name) + b": owns nothing and is in no ACL at or below " + file_name(top, is_whole), [])
-    moves = Moves(files, found, old, new, is_whole)
+    moves = GroupMoves(files, found, old, new, is_whole)
     other_names = {path for names in read_links(folder_of(folder).optional(b"links")) for path in at_or_below(names, [top])[1:]}
     return MoveJob(b"".join(lines_of(moves, other_names)), summary_of(moves), [*notes_of(moves, people)])

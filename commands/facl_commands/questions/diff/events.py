@@ -5,9 +5,8 @@ from functools import lru_cache
 from typing import Dict, FrozenSet, Iterable, List, NamedTuple, Set, Tuple
 
 from ...base.names import sorting_key
-from ...model.rights import Gain
 from ...model.records import path_of
-from ...model.rights import REQUESTS
+from ...model.rights import REQUESTS, Gain
 from .causes import MADE, MEMBERSHIP, MOVED, RECORD, REMOVED, USER_GONE, USER_MADE, Causes
 from .labels import JudgedUsers
 from .shapes import Counted
