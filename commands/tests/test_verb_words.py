@@ -8,7 +8,7 @@ import unittest
 from typing import Dict, List, Tuple
 
 from common import COMMANDS
-from verb_case import DAY, VerbCase, with_entry_of_nobody
+from verb_case import DAY, VerbCase, restoring, with_entry_of_nobody
 
 sys.path.insert(0, COMMANDS)
 
@@ -106,9 +106,9 @@ class Commands(VerbCase):
         super().setUp()
         self.snap, self.old = self.stored("new"), self.stored("old", seconds=3 * DAY)
         dump = self.read("store/new/dump")
-        self.write("store/new/dump", with_entry_of_nobody(dump.replace(b"mask::r--", b"mask::rw-")))
-        records = b"".join(it + b"\n\n" for it in dump.split(b"\n\n") if b"mask::r--" in it)
-        self.write("back", b"setfacl --restore=-\n" + records + b".\n")
+        new = with_entry_of_nobody(dump.replace(b"mask::r--", b"mask::rw-"))
+        self.write("store/new/dump", new)
+        self.write("back", restoring(dump, new))
         self.write("moved", b"chgrp staff /srv/project/drafts/old '/srv/project/drafts/old/logo 1.svg'\n")
         self.write("leaver", b"setfacl -n -x u:4711 /srv/project/README\n")
         self.write("joiner", b"setfacl -n -m u:ben:r-x /srv/project/drafts\nsetfacl -n -m u:ben:r-- /srv/project/drafts/logo.svg\n"

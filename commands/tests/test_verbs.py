@@ -10,7 +10,7 @@ from typing import Dict, Iterator, List, Set, Tuple
 from unittest import mock
 
 from common import COMMANDS
-from verb_case import DAY, VerbCase, with_entry_of_nobody
+from verb_case import DAY, VerbCase, restoring, with_entry_of_nobody
 
 sys.path.insert(0, COMMANDS)
 
@@ -121,10 +121,10 @@ class Verbs(VerbCase):
         self.snap = self.stored("new")
         self.old = self.stored("old", seconds=3 * DAY)
         dump = self.read("store/new/dump")
-        self.write("store/new/dump", with_entry_of_nobody(dump.replace(b"mask::r--", b"mask::rw-")))
+        new = with_entry_of_nobody(dump.replace(b"mask::r--", b"mask::rw-"))
+        self.write("store/new/dump", new)
         self.write("edits", b"setfacl -n -m u:guest:r /srv/project/notes.txt\n")
-        self.write("back", b"setfacl --restore=-\n" + b"".join(
-            it + b"\n\n" for it in dump.split(b"\n\n") if b"mask::r--" in it) + b".\n")
+        self.write("back", restoring(dump, new))
         self.write("moved", b"chgrp staff /srv/project/drafts/old '/srv/project/drafts/old/logo 1.svg'\n")
         self.write("bad", b"frob\nchmod 600 /srv/project/notes.txt\n")
         self.write("rules", b"never guest read /srv/project/\n")

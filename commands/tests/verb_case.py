@@ -31,6 +31,12 @@ def with_entry_of_nobody(dump: bytes) -> bytes:
     return dump.replace(plain, plain.replace(b"group::r--\n", b"user:4711:r--\ngroup::r--\nmask::r--\n"))
 
 
+def restoring(old: bytes, new: bytes) -> bytes:
+    """A line, with its text, that gives the files of a dump the records that they have in another one."""
+    records = (one + b"\n\n" for one, other in zip(old.split(b"\n\n"), new.split(b"\n\n")) if one != other)
+    return b"setfacl --restore=-\n" + b"".join(records) + b".\n"
+
+
 class VerbCase(Case):
     """A test with a store in its folder."""
 
