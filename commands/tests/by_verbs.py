@@ -7,15 +7,12 @@ import importlib
 import io
 import os
 import re
-import sys
 from typing import Callable, Dict, List, NamedTuple, Optional, Tuple
 
-from common import COMMANDS, Done
+from common import Done
 
-sys.path.insert(0, COMMANDS)
-
-from facl_commands.verbs.options import BY_FIELD  # noqa: E402
-from facl_commands.verbs.table import BY_VERB  # noqa: E402
+from facl_commands.verbs.options import BY_FIELD
+from facl_commands.verbs.table import BY_VERB
 
 MODULES = {"facl-who": "questions.who", "facl-audit": "questions.audit", "facl-check": "questions.check",
            "facl-diff": "questions.diff", "facl-report": "page", "facl-plan": "plan", "facl-apply": "apply"}

@@ -16,6 +16,7 @@ from typing import Dict, List, NamedTuple, Optional
 
 HERE = os.path.dirname(os.path.realpath(__file__))
 COMMANDS = os.path.dirname(HERE)
+sys.path.insert(0, COMMANDS)  # Modules of the commands can be imported once this one is.
 
 # A test of what takes time, or of when other processes of the system do something: tools/check_commands.sh --all has it too.
 outside_the_gate = unittest.skipUnless("ALL_TESTS" in os.environ, "only with --all")

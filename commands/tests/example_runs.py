@@ -10,16 +10,13 @@ import os
 import re
 import shutil
 import subprocess
-import sys
 import threading
 from typing import Dict, List, Tuple
 
 from common import COMMANDS
 from examples import Example, difference
 
-sys.path.insert(0, COMMANDS)
-
-from facl_commands.base.programs import ACL5, LINUX  # noqa: E402
+from facl_commands.base.programs import ACL5, LINUX
 
 SECONDS = 120  # that a command may take, however busy the machine is
 HOME = "/root"  # Where the examples of documents are run.

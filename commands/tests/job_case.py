@@ -3,19 +3,16 @@ from __future__ import annotations
 
 import argparse
 import os
-import sys
 from typing import Dict, List, Tuple
 
-from common import COMMANDS, Done
+from common import Done
 from small_tree import GROUP, PASSWD
 from verb_case import HOST, VerbCase, ago
 
-sys.path.insert(0, COMMANDS)
-
-from facl_commands.model.records import Files, read_listing  # noqa: E402
-from facl_commands.model.snapshot import read_snapshot  # noqa: E402
-from facl_commands.plan import command as plan  # noqa: E402
-from facl_commands.program.scripts import read_script  # noqa: E402
+from facl_commands.model.records import Files, read_listing
+from facl_commands.model.snapshot import read_snapshot
+from facl_commands.plan import command as plan
+from facl_commands.program.scripts import read_script
 
 Records = Dict[bytes, bytes]  # By name, that of a directory with a slash at its end: owner, group, flags and lists.
 Identities = Dict[bytes, Tuple[int, int, int]]

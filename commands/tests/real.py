@@ -3,14 +3,11 @@ from __future__ import annotations
 
 import os
 import stat
-import sys
 from typing import Dict, List, Tuple
 
-from common import COMMANDS, Case, Done
+from common import Case, Done
 
-sys.path.insert(0, COMMANDS)
-
-from facl_commands.base import linux, names  # noqa: E402
+from facl_commands.base import linux, names
 
 
 def record(path: bytes, status: os.stat_result) -> bytes:

@@ -19,13 +19,13 @@ from typing import Any, Callable, Dict, List, Set
 from common import COMMANDS, Case, Done
 from real import RealCase
 
-from facl_commands.apply import carrying, changing, direction, survey  # noqa: E402
-from facl_commands.apply import command as apply  # noqa: E402
-from facl_commands.base import acl_bytes, live  # noqa: E402
-from facl_commands.base.linux import Identity  # noqa: E402
-from facl_commands.base.messages import SIGNALS, Failure  # noqa: E402
-from facl_commands.planned import by_hand, differences, plan_files, plan_folder  # noqa: E402
-from facl_commands.planned.plan_folder import PlanFolder  # noqa: E402
+from facl_commands.apply import carrying, changing, direction, survey
+from facl_commands.apply import command as apply
+from facl_commands.base import acl_bytes, live
+from facl_commands.base.linux import Identity
+from facl_commands.base.messages import SIGNALS, Failure
+from facl_commands.planned import by_hand, differences, plan_files, plan_folder
+from facl_commands.planned.plan_folder import PlanFolder
 
 
 VERSION, USER, GROUP, OTHER = "02000000", "01000600ffffffff", "04000400ffffffff", "20000400ffffffff"

@@ -19,18 +19,16 @@ from typing import Dict, List, Tuple, Union
 
 from common import COMMANDS, HERE, Case, Done, outside_the_gate, take_terminal
 
-sys.path.insert(0, COMMANDS)
-
-from facl_commands.ask import completion  # noqa: E402
-from facl_commands.ask.prompt import ALONE, WORDS_OF_PROMPT, Prompt, has_history  # noqa: E402
-from facl_commands.base.messages import Failure  # noqa: E402
-from facl_commands.base.names import shown  # noqa: E402
-from facl_commands.base.programs import LINUX  # noqa: E402
-from facl_commands.model import overview  # noqa: E402
-from facl_commands.model.snapshot import check_texts  # noqa: E402
-from facl_commands.model.people import Superusers  # noqa: E402
-from facl_commands.program import tools  # noqa: E402
-from facl_commands.program.session import Session  # noqa: E402
+from facl_commands.ask import completion
+from facl_commands.ask.prompt import ALONE, WORDS_OF_PROMPT, Prompt, has_history
+from facl_commands.base.messages import Failure
+from facl_commands.base.names import shown
+from facl_commands.base.programs import LINUX
+from facl_commands.model import overview
+from facl_commands.model.snapshot import check_texts
+from facl_commands.model.people import Superusers
+from facl_commands.program import tools
+from facl_commands.program.session import Session
 
 SHARE = os.fsencode(os.path.join(HERE, "snapshots", "share"))
 SCRIPT = b"who r srv/share/notes\nfrob\nsetfacl -d -m d:u:guest:r,u:guest:x srv/share/drafts\nmay guest r\nwho 'open\n\xff\ngetfacl -M - x\nindex"

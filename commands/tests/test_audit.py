@@ -16,9 +16,7 @@ from common import COMMANDS, Done, restore_signals
 from page_data import read_data
 from small_tree import CLEAN, GROUP, PASSWD, SmallTree
 
-sys.path.insert(0, COMMANDS)
-
-from facl_commands.questions.audit import findings  # noqa: E402
+from facl_commands.questions.audit import findings
 
 PLAIN = b"# owner: 1001\n# group: 2001\nuser::rw-\ngroup::rw-\nother::---\n"
 FOLDER = b"# owner: 0\n# group: 2001\nuser::rwx\ngroup::rwx\nother::---\n"

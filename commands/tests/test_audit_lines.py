@@ -4,20 +4,16 @@ from __future__ import annotations
 
 import os
 import random
-import sys
 import unittest
 from typing import Dict, List, NamedTuple, Set
 
-from common import COMMANDS
 from small_tree import CLEAN, GROUP, PASSWD, SmallTree
 
-sys.path.insert(0, COMMANDS)
-
-from facl_commands.base.programs import LINUX  # noqa: E402
-from facl_commands.model import sources  # noqa: E402
-from facl_commands.program.session import session_over  # noqa: E402
-from facl_commands.questions.audit import command as audit  # noqa: E402
-from facl_commands.questions.audit.findings import KINDS, edits_of  # noqa: E402
+from facl_commands.base.programs import LINUX
+from facl_commands.model import sources
+from facl_commands.program.session import session_over
+from facl_commands.questions.audit import command as audit
+from facl_commands.questions.audit.findings import KINDS, edits_of
 
 TREES = 10
 FILES = 16

@@ -18,20 +18,18 @@ from unittest import mock
 
 from common import COMMANDS, Case, Done, restore_signals
 
-sys.path.insert(0, COMMANDS)
-
-from facl_commands.apply import by_hand as run_by_hand, command as apply  # noqa: E402
-from facl_commands.base import acl_bytes, linux, messages  # noqa: E402
-from facl_commands.base.acl_bytes import Record  # noqa: E402
-from facl_commands.base.linux import Identity  # noqa: E402
-from facl_commands.base.messages import Command, Failure  # noqa: E402
-from facl_commands.base.user_tools import PeopleChange, shown_change  # noqa: E402
-from facl_commands.model import entries, records  # noqa: E402
-from facl_commands.model.people import People  # noqa: E402
-from facl_commands.model.records import File  # noqa: E402
-from facl_commands.model.snapshot import Snapshot  # noqa: E402
-from facl_commands.plan import by_hand  # noqa: E402
-from facl_commands.planned import by_hand as steps, hand_notes, plan_folder  # noqa: E402
+from facl_commands.apply import by_hand as run_by_hand, command as apply
+from facl_commands.base import acl_bytes, linux, messages
+from facl_commands.base.acl_bytes import Record
+from facl_commands.base.linux import Identity
+from facl_commands.base.messages import Command, Failure
+from facl_commands.base.user_tools import PeopleChange, shown_change
+from facl_commands.model import entries, records
+from facl_commands.model.people import People
+from facl_commands.model.records import File
+from facl_commands.model.snapshot import Snapshot
+from facl_commands.plan import by_hand
+from facl_commands.planned import by_hand as steps, hand_notes, plan_folder
 
 SHELLS = [shell for shell in ("dash", "bash") if shutil.which(shell)] or ["sh"]
 OWNER, OWNING_GROUP = os.geteuid(), os.getegid()  # The caller's, so that the tests need not be run by root.

@@ -7,7 +7,6 @@ import re
 import shutil
 import signal
 import subprocess
-import sys
 import tempfile
 import time
 import unittest
@@ -16,10 +15,8 @@ from typing import Callable, List, Optional
 from common import COMMANDS, Case, Done, restore_signals
 from snapshot_stand_ins import all_commands_with
 
-sys.path.insert(0, COMMANDS)
-
-from facl_commands.verbs.options import BY_FIELD  # noqa: E402
-from facl_commands.verbs.table import BY_VERB  # noqa: E402
+from facl_commands.verbs.options import BY_FIELD
+from facl_commands.verbs.table import BY_VERB
 
 NEEDED = ("getfacl", "setfacl")
 LOCK, FOUND = "lock.of-facl-daily", "found.by-facl-daily"

@@ -11,13 +11,12 @@ import sys
 import unittest
 from typing import Callable, Dict, List
 
-from common import COMMANDS, Case
+from common import Case
 
-sys.path.insert(0, COMMANDS)
-from facl_commands.base import messages  # noqa: E402
-from facl_commands.daily import children as daily_children  # noqa: E402
-from facl_commands.daily import command as daily  # noqa: E402
-from facl_commands.daily import words as daily_words  # noqa: E402
+from facl_commands.base import messages
+from facl_commands.daily import children as daily_children
+from facl_commands.daily import command as daily
+from facl_commands.daily import words as daily_words
 
 LOCK, MADE = "lock.of-facl-daily", "made.by-facl-daily"
 STUBS = {

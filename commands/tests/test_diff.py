@@ -15,11 +15,9 @@ from typing import Any, Dict, List, Tuple
 
 from common import COMMANDS, Case, Done, restore_signals
 
-sys.path.insert(0, COMMANDS)
-
-from facl_commands.base.names import path_order  # noqa: E402
-from facl_commands.questions.diff.reasons import decided_by, words_of_list  # noqa: E402
-from facl_commands.questions.diff.states import Pair, RecordReader, walk  # noqa: E402
+from facl_commands.base.names import path_order
+from facl_commands.questions.diff.reasons import decided_by, words_of_list
+from facl_commands.questions.diff.states import Pair, RecordReader, walk
 
 PAIR = ("before", "after")
 NOTHING = b"nothing differs: the same users, groups of users, files and ACLs\n"

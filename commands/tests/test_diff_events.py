@@ -4,19 +4,16 @@ from __future__ import annotations
 import os
 import random
 import shutil
-import sys
 import unittest
 from typing import Any, Callable, Dict, List, Tuple
 
-from common import COMMANDS, Case, Done
+from common import Case, Done
 from test_split import CUT, OPEN, OWN, Days, World, small
 
-sys.path.insert(0, COMMANDS)
-
-from facl_commands.base.messages import Command  # noqa: E402
-from facl_commands.questions.diff import command as diff  # noqa: E402
-from facl_commands.questions.diff import report  # noqa: E402
-from facl_commands.questions.diff.page import worse  # noqa: E402
+from facl_commands.base.messages import Command
+from facl_commands.questions.diff import command as diff
+from facl_commands.questions.diff import report
+from facl_commands.questions.diff.page import worse
 
 SHUT = OPEN.replace(b"other::r-x", b"other::---")
 OF_LAW = OWN.replace(b"2001", b"2002")

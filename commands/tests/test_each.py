@@ -7,7 +7,6 @@ import shutil
 import signal
 import stat
 import subprocess
-import sys
 import tempfile
 import time
 import unittest
@@ -16,17 +15,15 @@ from typing import Dict, List, Optional
 from common import COMMANDS, HERE, Case, Done, outside_the_gate, restore_signals
 from snapshot_stand_ins import DIRECTORY, command_with, names_of
 
-sys.path.insert(0, COMMANDS)
-
-from facl_commands.ask.parts import join, runs, several, worker  # noqa: E402
-from facl_commands.ask.parts.runs import HERE as THIS  # noqa: E402
-from facl_commands.ask.parts.runs import Part, Server  # noqa: E402
-from facl_commands.base.messages import Failure  # noqa: E402
-from facl_commands.base.names import path_order, read_path  # noqa: E402
-from facl_commands.base.programs import LINUX  # noqa: E402
-from facl_commands.model import sources  # noqa: E402
-from facl_commands.program.scripts import read_script  # noqa: E402
-from facl_commands.program.session import LINE_ROOM, OutputSlice, Session  # noqa: E402
+from facl_commands.ask.parts import join, runs, several, worker
+from facl_commands.ask.parts.runs import HERE as THIS
+from facl_commands.ask.parts.runs import Part, Server
+from facl_commands.base.messages import Failure
+from facl_commands.base.names import path_order, read_path
+from facl_commands.base.programs import LINUX
+from facl_commands.model import sources
+from facl_commands.program.scripts import read_script
+from facl_commands.program.session import LINE_ROOM, OutputSlice, Session
 
 
 

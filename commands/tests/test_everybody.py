@@ -2,23 +2,20 @@
 from __future__ import annotations
 
 import os
-import sys
 import unittest
 from typing import List
 
-from common import COMMANDS, HERE, Case
+from common import HERE, Case
 from test_ask import completer
 
-sys.path.insert(0, COMMANDS)
-
-from facl_commands.ask.prompt import ALONE, Prompt  # noqa: E402
-from facl_commands.base.messages import Failure  # noqa: E402
-from facl_commands.base.programs import LINUX  # noqa: E402
-from facl_commands.model.everybody import (  # noqa: E402
+from facl_commands.ask.prompt import ALONE, Prompt
+from facl_commands.base.messages import Failure
+from facl_commands.base.programs import LINUX
+from facl_commands.model.everybody import (
     ElseAnswers, Everybody, answers_over, beside_of, people_in, read_everybody, session_with,
 )
-from facl_commands.model.people import Superusers  # noqa: E402
-from facl_commands.program.scripts import read_script  # noqa: E402
+from facl_commands.model.people import Superusers
+from facl_commands.program.scripts import read_script
 
 SHARE = os.fsencode(os.path.join(HERE, "snapshots", "share"))
 NEMO = Everybody(b"facl-everybody-else-0123abcd", 3_000_000_000)

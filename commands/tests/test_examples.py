@@ -18,10 +18,8 @@ from example_runs import SERVERS, Runner, Shell, why_no_tree
 from examples import REPOSITORY, blocks_of, difference, examples_of, read_lines, write_answers
 from verb_case import ago
 
-sys.path.insert(0, COMMANDS)
-
-from facl_commands.base.programs import ACL5, LINUX  # noqa: E402
-from facl_commands.verbs.table import BY_VERB, VERBS  # noqa: E402
+from facl_commands.base.programs import ACL5, LINUX
+from facl_commands.verbs.table import BY_VERB, VERBS
 
 SNAPSHOTS = os.path.join(HERE, "snapshots")
 # With the snapshot that each is about.

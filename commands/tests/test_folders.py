@@ -5,24 +5,21 @@ from __future__ import annotations
 import os
 import shutil
 import subprocess
-import sys
 import unittest
 from typing import List, Tuple
 from unittest.mock import patch
 
-from common import COMMANDS, Case
+from common import Case
 
-sys.path.insert(0, COMMANDS)
-
-from facl_commands.ask.parts.several import check_same  # noqa: E402
-from facl_commands.ask.parts.runs import Part  # noqa: E402
-from facl_commands.ask.parts.worker import head_of  # noqa: E402
-from facl_commands.base import folders, trusted  # noqa: E402
-from facl_commands.base.folders import folder_of  # noqa: E402
-from facl_commands.base.messages import Failure  # noqa: E402
-from facl_commands.base.programs import LINUX  # noqa: E402
-from facl_commands.model.everybody import people_in, texts_with  # noqa: E402
-from facl_commands.program.session import OutputSlice, Session  # noqa: E402
+from facl_commands.ask.parts.several import check_same
+from facl_commands.ask.parts.runs import Part
+from facl_commands.ask.parts.worker import head_of
+from facl_commands.base import folders, trusted
+from facl_commands.base.folders import folder_of
+from facl_commands.base.messages import Failure
+from facl_commands.base.programs import LINUX
+from facl_commands.model.everybody import people_in, texts_with
+from facl_commands.program.session import OutputSlice, Session
 
 OTHER = b"# file: other\n# owner: 0\n# group: 0\nuser::rwx\ngroup::---\nother::---\n\n"
 STRANGER = 54321

@@ -5,27 +5,24 @@ import os
 import re
 import shutil
 import subprocess
-import sys
 import tempfile
 import unittest
 from typing import Callable, Dict, List, Optional, Set
 from unittest import mock
 
 import help_text
-from common import COMMANDS, HERE
+from common import HERE
 
-sys.path.insert(0, COMMANDS)
-
-from facl_commands.ask.completion import read_page  # noqa: E402
-from facl_commands.base.programs import LINUX  # noqa: E402
-from facl_commands.model.people import People  # noqa: E402
-from facl_commands.model.snapshot import read_snapshot  # noqa: E402
-from facl_commands.plan import chown  # noqa: E402
-from facl_commands.program import tools  # noqa: E402
-from facl_commands.program.hints import hint  # noqa: E402
-from facl_commands.program.hints.rows import ROWS, HintRow  # noqa: E402
-from facl_commands.program.scripts import Unit, read_script, words_of  # noqa: E402
-from facl_commands.program.session import Session  # noqa: E402
+from facl_commands.ask.completion import read_page
+from facl_commands.base.programs import LINUX
+from facl_commands.model.people import People
+from facl_commands.model.snapshot import read_snapshot
+from facl_commands.plan import chown
+from facl_commands.program import tools
+from facl_commands.program.hints import hint
+from facl_commands.program.hints.rows import ROWS, HintRow
+from facl_commands.program.scripts import Unit, read_script, words_of
+from facl_commands.program.session import Session
 
 SHARE = os.fsencode(os.path.join(HERE, "snapshots", "share"))
 FILLED: Dict[bytes, bytes] = {b"USER": b"ines", b"GROUP": b"audit", b"FILE": b"srv/share/one", b"PERMS": b"rw", b"UID": b"1010",

@@ -5,17 +5,14 @@ from __future__ import annotations
 import json
 import os
 import re
-import sys
 import unittest
 from typing import Any, Callable, Dict, Optional, Tuple
 from unittest import mock
 
-from common import COMMANDS, Case, Done
+from common import Case, Done
 
-sys.path.insert(0, COMMANDS)
-
-from facl_commands.ask.parts import runs  # noqa: E402
-from facl_commands.base.messages import Failure  # noqa: E402
+from facl_commands.ask.parts import runs
+from facl_commands.base.messages import Failure
 
 SCRIPT = b"who r srv/share/notes\nfrob\nmay guest x\nbelow r srv\n"
 SSH = b"""\

@@ -3,16 +3,13 @@ is expected follows from acl(5), setfacl(1) and path_resolution(7)."""
 from __future__ import annotations
 
 import os
-import sys
 import unittest
 from unittest import mock
 
-from common import COMMANDS, outside_the_gate
+from common import outside_the_gate
 from user_job_case import GROUP, HERE, ODD, PASSWD, UserJobCase, record
 
-sys.path.insert(0, COMMANDS)
-
-from facl_commands.jobs import joiner, origin  # noqa: E402
+from facl_commands.jobs import joiner, origin
 
 NONE = b"no right of anybody else changes\n"
 NAMED = record(1002, 2001, "u::rw-", "u:1001:rw-", "u:1003:r--", "g::r--", "m::r--", "o::---")

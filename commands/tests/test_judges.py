@@ -5,24 +5,20 @@ import argparse
 import json
 import os
 import shutil
-import sys
 import unittest
 from typing import Dict, List, Optional, Sequence, Tuple
 from unittest import mock
 
-from common import COMMANDS
 from page_data import data_in
 from small_tree import PASSWD, SmallTree
 
-sys.path.insert(0, COMMANDS)
-
-from facl_commands.base.messages import Failure  # noqa: E402
-from facl_commands.base.programs import ACL5, LINUX, KnownProgram, find_program, program_words  # noqa: E402
-from facl_commands.daily import command as daily  # noqa: E402
-from facl_commands.daily.children import Children, Done  # noqa: E402
-from facl_commands.daily.folder import DailyFolder  # noqa: E402
-from facl_commands.daily.text import Text  # noqa: E402
-from facl_commands.daily.words import read_words  # noqa: E402
+from facl_commands.base.messages import Failure
+from facl_commands.base.programs import ACL5, LINUX, KnownProgram, find_program, program_words
+from facl_commands.daily import command as daily
+from facl_commands.daily.children import Children, Done
+from facl_commands.daily.folder import DailyFolder
+from facl_commands.daily.text import Text
+from facl_commands.daily.words import read_words
 
 NOTE = b"/srv/hr/note"
 # Linux grants anna, the owner, rw-; bert, of the file's group, nothing; and carl, xaver and everybody else r--. By acl(5) the

@@ -5,15 +5,12 @@ import os
 import pty
 import shutil
 import subprocess
-import sys
 import unittest
 from typing import List, Tuple
 
 from common import COMMANDS, Case, Done
 
-sys.path.insert(0, COMMANDS)
-
-from facl_commands.base.programs import ACL5  # noqa: E402
+from facl_commands.base.programs import ACL5
 
 FACL = os.path.join(COMMANDS, "facl")
 TEXTS = ["--passwd", "before/passwd", "--group", "before/group", "--dump", "before/dump"]

@@ -3,19 +3,16 @@ expected follows from acl(5), setfacl(1), chown(2), userdel(8)."""
 from __future__ import annotations
 
 import os
-import sys
 import unittest
 from typing import List
 from unittest import mock
 
-from common import COMMANDS, outside_the_gate
+from common import outside_the_gate
 from user_job_case import GROUP, HERE, META, ODD, PASSWD, UserJobCase, record
 from verb_case import VerbCase
 
-sys.path.insert(0, COMMANDS)
-
-from facl_commands.jobs import leaver, origin  # noqa: E402
-from facl_commands.jobs.of_user import JobPlan  # noqa: E402
+from facl_commands.jobs import leaver, origin
+from facl_commands.jobs.of_user import JobPlan
 
 ELSE = b"nobody else gains or loses anything\n"
 OF_ANOTHER_HOST = b"whether %s is a row of /etc/passwd is not known of another host; by_hand finds out there\n"

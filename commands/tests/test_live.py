@@ -15,11 +15,11 @@ from typing import Dict, List, NamedTuple, Tuple
 from common import Case
 from real import RealCase
 
-from facl_commands.apply import changing  # noqa: E402
-from facl_commands.base import acl_bytes, live  # noqa: E402
-from facl_commands.base.acl_bytes import Record  # noqa: E402
-from facl_commands.base.programs import ACL5, LINUX, KnownProgram  # noqa: E402
-from facl_commands.program.session import Session  # noqa: E402
+from facl_commands.apply import changing
+from facl_commands.base import acl_bytes, live
+from facl_commands.base.acl_bytes import Record
+from facl_commands.base.programs import ACL5, LINUX, KnownProgram
+from facl_commands.program.session import Session
 
 UIDS, GIDS = range(1, 7), range(11, 16)
 MANY_UIDS, MANY_GIDS = range(1, 22), range(31, 46)  # 36 names: lists of up to 40 entries.

@@ -4,18 +4,15 @@ from __future__ import annotations
 import os
 import re
 import subprocess
-import sys
 import unittest
 from typing import Dict, List, Tuple
 
 import help_text
 from common import COMMANDS, HERE, Case
 
-sys.path.insert(0, COMMANDS)
-
-from facl_commands.ask.completion import HELP, read_page  # noqa: E402
-from facl_commands.base.programs import LINUX  # noqa: E402
-from facl_commands.program.session import Session  # noqa: E402
+from facl_commands.ask.completion import HELP, read_page
+from facl_commands.base.programs import LINUX
+from facl_commands.program.session import Session
 
 REPOSITORY = os.path.join(COMMANDS, "..")
 SHARE = os.fsencode(os.path.join(HERE, "snapshots", "share"))

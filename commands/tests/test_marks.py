@@ -16,11 +16,9 @@ from page_data import data_in, read_data
 from real import RealCase
 from test_snapshot import SnapshotCase
 
-sys.path.insert(0, COMMANDS)
-
-from facl_commands.base import beside, linux  # noqa: E402
-from facl_commands.model.marks import Marks, obstacles  # noqa: E402
-from facl_commands.model.records import ChangedPaths  # noqa: E402
+from facl_commands.base import beside, linux
+from facl_commands.model.marks import Marks, obstacles
+from facl_commands.model.records import ChangedPaths
 
 # Code that is added: what a file has is by the end of its name, and each part of the tree may be a mount.
 FILE_SYSTEMS = """

@@ -4,18 +4,14 @@ from __future__ import annotations
 import os
 import random
 import re
-import sys
 import unittest
 from typing import Dict, FrozenSet, List, Tuple
 
-from common import COMMANDS
 from job_case import JobCase, Records, record
 from small_tree import GROUP
 
-sys.path.insert(0, COMMANDS)
-
-from facl_commands.base.programs import LINUX  # noqa: E402
-from facl_commands.jobs.move_group import moving  # noqa: E402
+from facl_commands.base.programs import LINUX
+from facl_commands.jobs.move_group import moving
 
 TOP: Records = {b"/": record(0, 0, "rwxr-xr-x"), b"/srv/": record(0, 0, "rwxr-xr-x")}
 LETTERS = ("---", "--x", "-w-", "r--", "r-x", "rw-", "rwx")

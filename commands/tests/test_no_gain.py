@@ -6,18 +6,15 @@ import json
 import os
 import random
 import shutil
-import sys
 import unittest
 from typing import List, Set, Tuple
 from unittest import mock
 
-from common import COMMANDS, HERE, Case
+from common import HERE, Case
 
-sys.path.insert(0, COMMANDS)
-
-from facl_commands.model.snapshot import Snapshot, read_snapshot  # noqa: E402
-from facl_commands.plan import command as plan, no_gain, report  # noqa: E402
-from facl_commands.program.scripts import read_script  # noqa: E402
+from facl_commands.model.snapshot import Snapshot, read_snapshot
+from facl_commands.plan import command as plan, no_gain, report
+from facl_commands.program.scripts import read_script
 
 WRITTEN = b"wrote before.plan; next: facl apply before.plan\n"
 NOBODY = b"; nobody may do anything else than before\n"

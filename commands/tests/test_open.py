@@ -4,26 +4,22 @@ from __future__ import annotations
 import os
 import random
 import re
-import sys
 import unittest
 from typing import Dict, List, Set, Tuple
 from unittest import mock
 
-from common import COMMANDS
 from job_case import JobCase, Records, record
 from small_tree import GROUP, PASSWD
 
-sys.path.insert(0, COMMANDS)
-
-from facl_commands.base.messages import Failure  # noqa: E402
-from facl_commands.base.programs import ACL5, LINUX  # noqa: E402
-from facl_commands.base.user_tools import User  # noqa: E402
-from facl_commands.jobs import open_file  # noqa: E402
-from facl_commands.jobs.open_file import CANNOT, NOTHING_TO_DO, OpenJob, Wanted, opening  # noqa: E402
-from facl_commands.model.everybody import world_of  # noqa: E402
-from facl_commands.model.people import users_in  # noqa: E402
-from facl_commands.model.sources import Source  # noqa: E402
-from facl_commands.program.session import Session  # noqa: E402
+from facl_commands.base.messages import Failure
+from facl_commands.base.programs import ACL5, LINUX
+from facl_commands.base.user_tools import User
+from facl_commands.jobs import open_file
+from facl_commands.jobs.open_file import CANNOT, NOTHING_TO_DO, OpenJob, Wanted, opening
+from facl_commands.model.everybody import world_of
+from facl_commands.model.people import users_in
+from facl_commands.model.sources import Source
+from facl_commands.program.session import Session
 
 TREES = 200
 USERS, GROUPS = range(1, 6), range(11, 14)

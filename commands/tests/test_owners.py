@@ -6,7 +6,6 @@ import os
 import random
 import shutil
 import subprocess
-import sys
 import tempfile
 import unittest
 from typing import List, Tuple
@@ -14,18 +13,16 @@ from unittest import mock
 
 from common import COMMANDS, Case, outside_the_gate
 
-sys.path.insert(0, COMMANDS)
-
-from facl_commands.base.names import live_name, path_order, script_word, write_name  # noqa: E402
-from facl_commands.base.programs import LINUX  # noqa: E402
-from facl_commands.model.people import People  # noqa: E402
-from facl_commands.model.records import Files, read_listing  # noqa: E402
-from facl_commands.model.snapshot import Snapshot, read_snapshot  # noqa: E402
-from facl_commands.plan import chown  # noqa: E402
-from facl_commands.plan.hard_links import Links  # noqa: E402
-from facl_commands.program import tools  # noqa: E402
-from facl_commands.program.scripts import read_script  # noqa: E402
-from facl_commands.program.session import Session  # noqa: E402
+from facl_commands.base.names import live_name, path_order, script_word, write_name
+from facl_commands.base.programs import LINUX
+from facl_commands.model.people import People
+from facl_commands.model.records import Files, read_listing
+from facl_commands.model.snapshot import Snapshot, read_snapshot
+from facl_commands.plan import chown
+from facl_commands.plan.hard_links import Links
+from facl_commands.program import tools
+from facl_commands.program.scripts import read_script
+from facl_commands.program.session import Session
 
 
 class Run:

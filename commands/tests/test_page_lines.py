@@ -7,18 +7,15 @@ import os
 import re
 import shutil
 import subprocess
-import sys
 import unittest
 from typing import Dict, List, Tuple
 
-from common import COMMANDS, Case
+from common import Case
 from examples import read_lines
 from help_text import plain
 
-sys.path.insert(0, COMMANDS)
-
-from facl_commands.base.programs import ACL5  # noqa: E402
-from facl_commands.program.session import Session  # noqa: E402
+from facl_commands.base.programs import ACL5
+from facl_commands.program.session import Session
 
 PASSWD = b"lisa:x:1001:100::/:\njoe:x:1002:200::/:\ndaemon:x:1:1::/:\n"
 GROUP = b"staff:x:100:\nusers:x:200:\ndaemon:x:1:\n"

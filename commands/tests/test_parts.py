@@ -4,25 +4,22 @@ from __future__ import annotations
 import os
 import random
 import subprocess
-import sys
 import tempfile
 import unittest
 from typing import Dict, List
 from unittest import mock
 
-from common import COMMANDS, HERE, Case
+from common import HERE, Case
 
-sys.path.insert(0, COMMANDS)
-
-from facl_commands.base import folders, names, user_tools  # noqa: E402
-from facl_commands.base.messages import Failure  # noqa: E402
-from facl_commands.base.programs import LINUX  # noqa: E402
-from facl_commands.model import (  # noqa: E402
+from facl_commands.base import folders, names, user_tools
+from facl_commands.base.messages import Failure
+from facl_commands.base.programs import LINUX
+from facl_commands.model import (
     entries, everybody, file_columns, overview, people, records, snapshot, sources, split_tree,
 )
-from facl_commands.plan import hard_links  # noqa: E402
-from facl_commands.program import scripts, tools  # noqa: E402
-from facl_commands.program.session import OutputSlice, Session  # noqa: E402
+from facl_commands.plan import hard_links
+from facl_commands.program import scripts, tools
+from facl_commands.program.session import OutputSlice, Session
 
 
 class Names(unittest.TestCase):

@@ -14,14 +14,12 @@ from typing import Dict, List, Set, Tuple
 
 from common import COMMANDS, Case, Done, restore_signals
 
-sys.path.insert(0, COMMANDS)
-
-from facl_commands.base.names import path_word  # noqa: E402
-from facl_commands.base.programs import LINUX  # noqa: E402
-from facl_commands.model.records import File, write_record  # noqa: E402
-from facl_commands.plan.hard_links import Links, directory_above, question  # noqa: E402
-from facl_commands.program.scripts import LINE_LIMIT, read_script  # noqa: E402
-from facl_commands.program.session import Session, parts_of  # noqa: E402
+from facl_commands.base.names import path_word
+from facl_commands.base.programs import LINUX
+from facl_commands.model.records import File, write_record
+from facl_commands.plan.hard_links import Links, directory_above, question
+from facl_commands.program.scripts import LINE_LIMIT, read_script
+from facl_commands.program.session import Session, parts_of
 
 WRITTEN = b"wrote before.plan; next: facl apply before.plan\n"
 REQUESTS = [b"--x", b"-w-", b"-wx", b"r--", b"r-x", b"rw-", b"rwx"]

@@ -16,13 +16,11 @@ from unittest import mock
 from common import COMMANDS, Done, read_all, restore_signals
 from verb_case import VerbCase
 
-sys.path.insert(0, COMMANDS)
-
-from facl_commands.base.messages import Command  # noqa: E402
-from facl_commands.base.programs import LINUX  # noqa: E402
-from facl_commands.base.progress import AT, CLEAR, Progress  # noqa: E402
-from facl_commands.verbs.running import Runs  # noqa: E402
-from facl_commands.verbs.table import BY_VERB  # noqa: E402
+from facl_commands.base.messages import Command
+from facl_commands.base.programs import LINUX
+from facl_commands.base.progress import AT, CLEAR, Progress
+from facl_commands.verbs.running import Runs
+from facl_commands.verbs.table import BY_VERB
 
 SLOW = """\
 #!/bin/sh

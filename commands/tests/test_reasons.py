@@ -7,18 +7,15 @@ import random
 import re
 import shutil
 import subprocess
-import sys
 import unittest
 from typing import Dict, List, Tuple
 
-from common import COMMANDS, HERE, Case
+from common import HERE, Case
 from page_data import Node, nodes_of, read_data
 
-sys.path.insert(0, COMMANDS)
-
-from facl_commands.base.names import script_word  # noqa: E402
-from facl_commands.base.programs import LINUX  # noqa: E402
-from facl_commands.program.session import Session  # noqa: E402
+from facl_commands.base.names import script_word
+from facl_commands.base.programs import LINUX
+from facl_commands.program.session import Session
 
 # Rows of passwd: two of one id, a name of digits alone, one with a blank, and one that is no UTF-8.
 USERS = [b"root:x:0:0:::", b"ines:x:1001:100:::", b"ben:x:1002:100:::", b"twin:x:1002:200:::", b"77:x:1005:300:::", b"jo x:x:1006:400:::",

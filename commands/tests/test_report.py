@@ -19,19 +19,17 @@ from typing import Any, Dict, Iterable, List, Tuple
 from common import COMMANDS, HERE, Case
 from page_data import Node, granted, nodes_of, places_of, read_data, unpacked
 
-sys.path.insert(0, COMMANDS)
-
-from facl_commands.base.messages import Failure  # noqa: E402
-from facl_commands.base.names import path_order, write_name  # noqa: E402
-from facl_commands.base.new_file import NewFile  # noqa: E402
-from facl_commands.base.numbered import Numbered  # noqa: E402
-from facl_commands.base.programs import LINUX  # noqa: E402
-from facl_commands.model import file_columns  # noqa: E402
-from facl_commands.page import columns as page_columns  # noqa: E402
-from facl_commands.page.answers import ListAnswers, ListReasons  # noqa: E402
-from facl_commands.page import frame as page_html  # noqa: E402
-from facl_commands.page.tree import Columns, list_files  # noqa: E402
-from facl_commands.program.session import OutputSlice, Session  # noqa: E402
+from facl_commands.base.messages import Failure
+from facl_commands.base.names import path_order, write_name
+from facl_commands.base.new_file import NewFile
+from facl_commands.base.numbered import Numbered
+from facl_commands.base.programs import LINUX
+from facl_commands.model import file_columns
+from facl_commands.page import columns as page_columns
+from facl_commands.page.answers import ListAnswers, ListReasons
+from facl_commands.page import frame as page_html
+from facl_commands.page.tree import Columns, list_files
+from facl_commands.program.session import OutputSlice, Session
 
 HOSTILE = [b"<script>alert(1)", b"<!--", b"</title><img src=x onerror=alert(1)>", b"&amp;", b"\\033[31m", b"\\351", b"\\342\\200\\250",
            b"\\342\\200\\256x", b"{{7*7}}", b"'\"`", b"c\\012d"]

@@ -13,11 +13,9 @@ from job_case import JobCase, Records, inodes_of, record
 from small_tree import GROUP, PASSWD
 from verb_case import DAY
 
-sys.path.insert(0, COMMANDS)
-
-from facl_commands.base.programs import LINUX  # noqa: E402
-from facl_commands.jobs.restore import restoring  # noqa: E402
-from facl_commands.model.records import read_listing  # noqa: E402
+from facl_commands.base.programs import LINUX
+from facl_commands.jobs.restore import restoring
+from facl_commands.model.records import read_listing
 
 TOP: Records = {b"/": record(0, 0, "rwxr-xr-x"), b"/srv/": record(0, 0, "rwxr-xr-x")}
 LETTERS = ("---", "--x", "r--", "r-x", "rw-", "rwx")

@@ -5,20 +5,17 @@ from __future__ import annotations
 import json
 import os
 import re
-import sys
 from pathlib import Path
 from typing import Any, Dict, List, Set, Tuple
 
 from browser import needs_chromium, shared
-from common import COMMANDS, HERE
+from common import HERE
 from firm import FILES, HOSTILE, FirmCase, file_named
 from pdf_text import pages_of
 
-sys.path.insert(0, COMMANDS)
-
-from facl_commands.base.names import read_name  # noqa: E402
-from facl_commands.base.programs import LINUX  # noqa: E402
-from facl_commands.program.session import Session  # noqa: E402
+from facl_commands.base.names import read_name
+from facl_commands.base.programs import LINUX
+from facl_commands.program.session import Session
 
 FOLDER = "srv/finance"
 LOW_CONTRAST = Path(HERE, "contrast.js").read_text(encoding="utf-8")

@@ -5,21 +5,18 @@ from __future__ import annotations
 import os
 import random
 import stat
-import sys
 import unittest
 from typing import Callable, Dict, Iterator, List, Tuple
 
-from common import COMMANDS, Case
+from common import Case
 
-sys.path.insert(0, COMMANDS)
-
-from facl_commands.base.names import parent_of  # noqa: E402
-from facl_commands.base.programs import ACL5, LINUX  # noqa: E402
-from facl_commands.base.user_tools import User  # noqa: E402
-from facl_commands.model import rules_of_lists as rules  # noqa: E402
-from facl_commands.model.entries import entries_of, read_record  # noqa: E402
-from facl_commands.model.records import body_of, path_of  # noqa: E402
-from facl_commands.program.session import Session  # noqa: E402
+from facl_commands.base.names import parent_of
+from facl_commands.base.programs import ACL5, LINUX
+from facl_commands.base.user_tools import User
+from facl_commands.model import rules_of_lists as rules
+from facl_commands.model.entries import entries_of, read_record
+from facl_commands.model.records import body_of, path_of
+from facl_commands.program.session import Session
 
 USERS, GROUPS = range(1, 9), range(11, 16)
 LETTERS = [b"---", b"--x", b"-w-", b"-wx", b"r--", b"r-x", b"rw-", b"rwx"]

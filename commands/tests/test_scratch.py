@@ -3,16 +3,13 @@ from __future__ import annotations
 
 import os
 import signal
-import sys
 import unittest
 from unittest import mock
 
-from common import COMMANDS, Case
+from common import Case
 
-sys.path.insert(0, COMMANDS)
-
-from facl_commands.base import new_file, scratch  # noqa: E402
-from facl_commands.base.messages import Failure, Interrupted, interrupt  # noqa: E402
+from facl_commands.base import new_file, scratch
+from facl_commands.base.messages import Failure, Interrupted, interrupt
 
 
 class Scratch(Case):

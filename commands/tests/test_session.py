@@ -15,11 +15,9 @@ from unittest import mock
 
 from common import COMMANDS, Case, restore_signals
 
-sys.path.insert(0, COMMANDS)
-
-from facl_commands.base.messages import Failure  # noqa: E402
-from facl_commands.program import session as sessions  # noqa: E402
-from facl_commands.program.session import Session  # noqa: E402
+from facl_commands.base.messages import Failure
+from facl_commands.program import session as sessions
+from facl_commands.program.session import Session
 
 HEAD = b"""\
 #!%s -IS

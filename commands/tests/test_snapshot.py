@@ -17,16 +17,14 @@ import time
 from functools import partial
 from typing import List, Optional, Set, Tuple
 
-from common import COMMANDS, Case, Done, restore_signals
+from common import Case, Done, restore_signals
 from snapshot_stand_ins import AFTER_NAMES, DIRECTORY, LISTS, MEANWHILE, PERSON, UNREADABLE, command_with, names_of
 
-sys.path.insert(0, COMMANDS)
-
-from facl_commands.base import acl_bytes, beside, names, workers  # noqa: E402
-from facl_commands.base.accounts import is_person  # noqa: E402
-from facl_commands.base.names import path_order  # noqa: E402
-from facl_commands.page import columns as page_columns  # noqa: E402
-from facl_commands.snapshot import in_order, list_texts, runs, scope, walking  # noqa: E402
+from facl_commands.base import acl_bytes, beside, names, workers
+from facl_commands.base.accounts import is_person
+from facl_commands.base.names import path_order
+from facl_commands.page import columns as page_columns
+from facl_commands.snapshot import in_order, list_texts, runs, scope, walking
 
 FILES = ["dump", "group", "inodes", "links", "marks", "meta", "passwd"]
 

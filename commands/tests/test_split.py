@@ -5,27 +5,24 @@ from __future__ import annotations
 import os
 import random
 import shutil
-import sys
 import unittest
 from typing import Dict, Iterable, List, NamedTuple, Optional, Tuple
 
-from common import COMMANDS, Case
+from common import Case
 
-sys.path.insert(0, COMMANDS)
-
-from facl_commands.base.messages import Command, Failure  # noqa: E402
-from facl_commands.base.names import sorting_key  # noqa: E402
-from facl_commands.base.programs import LINUX  # noqa: E402
-from facl_commands.model import sources, split_tree  # noqa: E402
-from facl_commands.questions.audit import command as audit  # noqa: E402
-from facl_commands.questions.check import command as check  # noqa: E402
-from facl_commands.questions.check.report import json_of as json_of_rules  # noqa: E402
-from facl_commands.questions.diff import command as diff  # noqa: E402
-from facl_commands.questions.diff import report as diff_report  # noqa: E402
-from facl_commands.snapshot.list_texts import shown_name  # noqa: E402
-from facl_commands.snapshot.recording import record  # noqa: E402
-from facl_commands.snapshot.runs import IS_FOLDER, LeftOut, Row  # noqa: E402
-from facl_commands.snapshot.walking import Walked  # noqa: E402
+from facl_commands.base.messages import Command, Failure
+from facl_commands.base.names import sorting_key
+from facl_commands.base.programs import LINUX
+from facl_commands.model import sources, split_tree
+from facl_commands.questions.audit import command as audit
+from facl_commands.questions.check import command as check
+from facl_commands.questions.check.report import json_of as json_of_rules
+from facl_commands.questions.diff import command as diff
+from facl_commands.questions.diff import report as diff_report
+from facl_commands.snapshot.list_texts import shown_name
+from facl_commands.snapshot.recording import record
+from facl_commands.snapshot.runs import IS_FOLDER, LeftOut, Row
+from facl_commands.snapshot.walking import Walked
 
 COUNT = 7  # Files of a part.
 USERS = {"anna": 1001, "bert": 1002, "carl": 1003, "dora": 1004}

@@ -6,7 +6,6 @@ import fcntl
 import json
 import os
 import subprocess
-import sys
 import unittest
 from typing import Dict, List
 from unittest import mock
@@ -15,11 +14,9 @@ from common import COMMANDS
 from example_runs import why_no_tree
 from verb_case import DAY, HOST, VerbCase
 
-sys.path.insert(0, COMMANDS)
-
-from facl_commands.base.messages import Failure  # noqa: E402
-from facl_commands.model.meta import Meta  # noqa: E402
-from facl_commands.verbs import prune, store  # noqa: E402
+from facl_commands.base.messages import Failure
+from facl_commands.model.meta import Meta
+from facl_commands.verbs import prune, store
 
 NOBODY = 65534
 

@@ -4,7 +4,6 @@ from __future__ import annotations
 import json
 import os
 import subprocess
-import sys
 import unittest
 from typing import Dict
 from unittest import mock
@@ -13,9 +12,7 @@ from common import COMMANDS, Done
 from example_runs import why_no_tree
 from verb_case import HOST, VerbCase
 
-sys.path.insert(0, COMMANDS)
-
-from facl_commands.verbs import store  # noqa: E402
+from facl_commands.verbs import store
 
 NOBODY = 65534
 IMPORT = ("import", "before/dump", "--passwd", "before/passwd", "--group", "before/group")

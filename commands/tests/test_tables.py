@@ -14,16 +14,14 @@ from unittest import mock
 
 from common import COMMANDS, HERE, Case
 
-sys.path.insert(0, COMMANDS)
-
-from facl_commands.base import names, tables  # noqa: E402
-from facl_commands.base.accounts import is_person  # noqa: E402
-from facl_commands.base.messages import Failure  # noqa: E402
-from facl_commands.base.programs import LINUX  # noqa: E402
-from facl_commands.base.tables import Column  # noqa: E402
-from facl_commands.model import choice  # noqa: E402
-from facl_commands.model.people import ids_in  # noqa: E402
-from facl_commands.program.session import Session  # noqa: E402
+from facl_commands.base import names, tables
+from facl_commands.base.accounts import is_person
+from facl_commands.base.messages import Failure
+from facl_commands.base.programs import LINUX
+from facl_commands.base.tables import Column
+from facl_commands.model import choice
+from facl_commands.model.people import ids_in
+from facl_commands.program.session import Session
 
 PASSWD = b"".join(b"%s:x:%d:100::/:\n" % row for row in (
     (b"root", 0), (b"toor", 0), (b"daemon", 1), (b"svc", 999), (b"ann", 1000), (b"bob", 59999), (b"home", 60513), (b"dyn", 60514), (b"old", 65533),

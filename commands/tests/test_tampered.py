@@ -6,11 +6,9 @@ import os
 import sys
 import unittest
 
-from common import COMMANDS, Case
+from common import Case
 
-sys.path.insert(0, COMMANDS)
-
-from facl_commands.base.programs import LINUX  # noqa: E402
+from facl_commands.base.programs import LINUX
 
 # Runs the program as it is, but where it is asked for the bytes of lists: there `bodies` changes the records that it is given,
 # and `answers` what it prints. Else `listings` changes the records.

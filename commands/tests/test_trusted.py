@@ -7,8 +7,8 @@ import unittest
 from common import Case
 from real import RealCase
 
-from facl_commands.base import trusted  # noqa: E402
-from facl_commands.base.messages import Failure  # noqa: E402
+from facl_commands.base import trusted
+from facl_commands.base.messages import Failure
 
 as_root = unittest.skipUnless(os.geteuid() == 0, "only for root, who can give files away")
 EVERYBODY = b": can be written by everybody, so it is not trusted\n"

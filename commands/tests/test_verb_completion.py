@@ -5,7 +5,6 @@ import os
 import shlex
 import shutil
 import subprocess
-import sys
 import unittest
 from typing import List
 
@@ -13,10 +12,8 @@ from common import COMMANDS
 from test_completion import FILES, SCRIPT, Shell, made
 from verb_case import VerbCase
 
-sys.path.insert(0, COMMANDS)
-
-from facl_commands.verbs.options import FINDINGS  # noqa: E402
-from facl_commands.verbs.table import VERBS, parser_of  # noqa: E402
+from facl_commands.verbs.options import FINDINGS
+from facl_commands.verbs.table import VERBS, parser_of
 
 HOSTILE_NAMES = ('$(touch$IFS"made")', "`touch${IFS}made`", "${x[$(touch made)]}", "x;touch made", "a b", "it's",
                  'd"q', "-x", "*", "!!")

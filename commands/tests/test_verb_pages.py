@@ -13,9 +13,9 @@ from common import COMMANDS
 TOOLS = os.path.join(COMMANDS, "..", "tools")
 sys.path[:0] = [COMMANDS, TOOLS]
 
-import pages  # noqa: E402
-from facl_commands.verbs.options import BY_FIELD  # noqa: E402
-from facl_commands.verbs.table import VERBS  # noqa: E402
+import pages
+from facl_commands.verbs.options import BY_FIELD
+from facl_commands.verbs.table import VERBS
 
 OTHERS = {"man1/facl.1", "man5/facl-script.5", "man5/facl-snapshot.5", "man5/facl-rules.5", "man5/facl-json.5",
           "man7/facl-security.7",

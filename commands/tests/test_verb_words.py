@@ -3,19 +3,15 @@ from __future__ import annotations
 
 import os
 import shutil
-import sys
 import unittest
 from typing import Dict, List, Tuple
 
-from common import COMMANDS
 from verb_case import DAY, VerbCase, restoring, with_entry_of_nobody
 
-sys.path.insert(0, COMMANDS)
-
-from facl_commands.base.programs import LINUX  # noqa: E402
-from facl_commands.verbs.command import read_line  # noqa: E402
-from facl_commands.verbs.options import BY_FIELD, VerbOption  # noqa: E402
-from facl_commands.verbs.table import BY_VERB, VERBS, Verb, parser_of  # noqa: E402
+from facl_commands.base.programs import LINUX
+from facl_commands.verbs.command import read_line
+from facl_commands.verbs.options import BY_FIELD, VerbOption
+from facl_commands.verbs.table import BY_VERB, VERBS, Verb, parser_of
 
 # By each verb that runs a command: its words, and those of the command, of which OPTIONS is the place of its options.
 BASES: Dict[str, Tuple[str, str]] = {

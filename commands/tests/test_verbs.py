@@ -4,19 +4,15 @@ from __future__ import annotations
 import argparse
 import json
 import os
-import sys
 import unittest
 from typing import Dict, Iterator, List, Set, Tuple
 from unittest import mock
 
-from common import COMMANDS
 from verb_case import DAY, VerbCase, restoring, with_entry_of_nobody
 
-sys.path.insert(0, COMMANDS)
-
-from facl_commands.base.messages import Command, Failure  # noqa: E402
-from facl_commands.verbs import options, prepare, timer  # noqa: E402
-from facl_commands.verbs.table import ASKING, BY_VERB, MEANT, VERBS, parser_of, words_of  # noqa: E402
+from facl_commands.base.messages import Command, Failure
+from facl_commands.verbs import options, prepare, timer
+from facl_commands.verbs.table import ASKING, BY_VERB, MEANT, VERBS, parser_of, words_of
 
 NOTES = "/srv/project/notes.txt"
 # The words of a verb, and those of the command that says the same; SNAP is the snapshot.

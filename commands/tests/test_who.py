@@ -13,9 +13,7 @@ from typing import Any, Callable, Dict, List, Tuple, Union
 
 from common import COMMANDS, HERE, Case, Done, restore_signals
 
-sys.path.insert(0, COMMANDS)
-
-from facl_commands.base.names import read_name, write_name  # noqa: E402
+from facl_commands.base.names import read_name, write_name
 
 # A schema: a type, a list of one kind, an object by its fields, or a choice.
 Schema = Union[type, None, List[Any], Dict[str, Any], Tuple[Any, ...]]

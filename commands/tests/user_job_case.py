@@ -4,18 +4,15 @@ from __future__ import annotations
 import json
 import os
 import re
-import sys
 from typing import Dict, List, Set
 
-from common import COMMANDS, Done
+from common import Done
 import small_tree
 from small_tree import CLEAN, GROUP, PASSWD, SmallTree
 
-sys.path.insert(0, COMMANDS)
-
-from facl_commands.base import folders  # noqa: E402
-from facl_commands.base.programs import LINUX  # noqa: E402
-from facl_commands.model.sources import Source  # noqa: E402
+from facl_commands.base import folders
+from facl_commands.base.programs import LINUX
+from facl_commands.model.sources import Source
 
 META = small_tree.META.replace(b"folder /srv/hr\n", b"folder /srv\n")
 HERE = META.replace(b"srva", os.fsencode(os.uname().nodename))  # What a snapshot of this host has, whose users are of no /etc/passwd.

@@ -4,15 +4,12 @@ from __future__ import annotations
 import os
 import re
 import shutil
-import sys
 import time
 from typing import Dict, List, Optional
 
-from common import COMMANDS, HERE, Case, Done
+from common import HERE, Case, Done
 
-sys.path.insert(0, COMMANDS)
-
-from facl_commands.verbs.table import BY_VERB  # noqa: E402
+from facl_commands.verbs.table import BY_VERB
 
 HOST = os.uname().nodename
 DATE = "%Y-%m-%dT%H:%M:%SZ"
