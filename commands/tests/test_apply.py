@@ -314,6 +314,16 @@ class ThereAndBack(Tree):
         self.assertEqual(self.modes(), before)
         self.assertEqual(self.read("before.plan/state"), b"undone\n")
 
+    def test_notes_that_cannot_be_read_do_not_hinder_the_way_back(self) -> None:
+        """Whom by_hand removed is read before files get their old records, and said with what cannot be read after that."""
+        before = self.modes()
+        self.planned(b"chmod 600 " + self.word("a"))
+        self.expect(self.apply(), 0, b"changed 1 file\n")
+        os.chmod(self.path("before.plan/by_hand_done"), 0o640)
+        self.expect(self.apply("--undo"), 0, b"restored 1 file\n" + os.fsencode(os.path.realpath(self.path("before.plan/by_hand_done"))) + (
+            b": has the mode 0640 in place of 0600, so it is not trusted: look at it, and mend or remove it\n"))
+        self.assertEqual(self.modes(), before)
+
     def test_a_changed_file(self) -> None:
         self.planned(b"chmod 600 " + self.word("a") + b" " + self.word("b"))
         os.chmod(os.path.join(self.tree, "b"), 0o644)

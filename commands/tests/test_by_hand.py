@@ -1018,7 +1018,7 @@ class Lost(UserScripts):
         os.chmod(self.path("plan"), 0o700)
         self.write_removal(FILE.body)
         self.expect_run("by_hand", 0)
-        way = mock.Mock(folder=plan_folder.open_plan(os.fsencode(self.path("plan"))))
+        way = mock.Mock(folder=plan_folder.open_plan(os.fsencode(self.path("plan"))), file=os.fsencode, is_undo=True)
         self.assertEqual(self.removed(way, {}), (1, [os.fsencode(self.REMOVED)]))
         self.assertEqual(self.removed(way, {"mara": 1004}), (1, [os.fsencode(self.REMOVED)]))
         self.assertEqual(self.removed(way, {"mara": 1003}), (0, []))
@@ -1030,7 +1030,7 @@ class Lost(UserScripts):
         said: List[bytes] = []
         with mock.patch.object(Command, "say", lambda _command, text: said.append(text)), mock.patch(
                 "pwd.getpwnam", lambda name: mock.Mock(pw_uid=ids[name])):
-            return apply.say_removed(Command("facl-apply"), way), said
+            return apply.say_removed(Command("facl-apply"), apply.by_hand(way)[1]), said
 
     def test_files_that_went(self) -> None:
         self.write_scripts(["d/gone", "secret/gone", "secret"])

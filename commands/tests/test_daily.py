@@ -278,6 +278,16 @@ class Faults(Daily):
         self.assertEqual((done.status, self.kept()), (0, ["DAY", "DAY.2", "made.by-facl-daily"]))
         self.assertIn(b"has files that are no snapshot's, so it stays", done.messages)
 
+    def test_a_folder_in_a_part_stays(self) -> None:
+        """A part has no parts: what is in such a folder somebody else put there."""
+        self.assertEqual(self.daily("--keep", "1").status, 0)
+        place = "kept/%s/002/003" % time.strftime("%Y-%m-%d")
+        os.makedirs(self.path(place))
+        self.write(place + "/dump", b"mine")
+        done = self.daily("--keep", "1")
+        self.assertEqual((done.status, self.kept(), self.read(place + "/dump")), (0, ["DAY", "DAY.2", "made.by-facl-daily"], b"mine"))
+        self.assertIn(b"has files that are no snapshot's, so it stays", done.messages)
+
     def test_words(self) -> None:
         for words, text in ((["--keep", "0"], b"--keep 0: is not a number of snapshots"), (["--keep"], b"--keep: takes a word"),
                             (["--mail", "a b"], b"--mail a b: is not an address"), (["--fail-on", "x"], b"give high, middle, low or none"),

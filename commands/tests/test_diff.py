@@ -453,12 +453,18 @@ facl-diff: warning: recorded in after alone, so what is there may be new or gone
 """)
 
     def test_bad_rows(self) -> None:
-        for row in (b"torn", b"short:x", b"word:x:staff:", b"sign:x:-1:"):
+        for row in (b"torn", b"short:x", b"word:x:staff:", b"sign:x:-1:", b"many:x:" + b"9" * 5000 + b":"):
             self.edit("before/group", (b"staff:x:100:", row + b"\nstaff:x:100:"))
             done = self.diff()
             self.assertEqual((done.status, done.out), (2, b""))
             self.assertIn(b"before: the program does not load it: facl: setup: group: text line ", done.messages)
             self.edit("before/group", (row + b"\n", b""))
+
+    def test_ids_with_many_zeros(self) -> None:
+        zeros = b"0" * 5000
+        self.edit("before/group", (b"staff:x:100:", b"staff:x:" + zeros + b"100:"))
+        self.edit("before/passwd", (b"guest:x:1009:300:", b"guest:x:" + zeros + b"1009:" + zeros + b"300:"))
+        self.expect(self.diff(), 0, NOTHING)
 
     def test_other_files_left_out(self) -> None:
         self.write("before/meta", META % (b"srva", 26, b"/srv/share") + b"exclude *.bak\nother-file-system /srv/share/mnt\n")

@@ -11,12 +11,13 @@ import resource
 import struct
 import unittest
 from typing import Dict, List, NamedTuple, Tuple
+from unittest import mock
 
 from common import Case
 from real import RealCase
 
 from facl_commands.apply import changing
-from facl_commands.base import acl_bytes, live
+from facl_commands.base import acl_bytes, linux, live
 from facl_commands.base.acl_bytes import Record
 from facl_commands.base.programs import ACL5, LINUX, KnownProgram
 from facl_commands.program.session import Session
@@ -230,6 +231,40 @@ class Opening(RealCase):
             with self.assertRaises(live.NotFound):
                 opener.open(path + b"/d/y")
             self.assertTrue(opener.open(b"").look().is_directory)
+
+
+class Renames(Case):
+    """Where a file system has no rename that replaces nothing, or that exchanges two names."""
+
+    def setUp(self) -> None:
+        super().setUp()
+        without = mock.patch.object(linux, "is_renamed", lambda *_: False)
+        without.start()
+        self.addCleanup(without.stop)
+        self.above = os.open(self.folder, os.O_RDONLY | os.O_DIRECTORY)
+        self.addCleanup(os.close, self.above)
+        for name in ("one", "two"):
+            os.mkdir(self.path(name))
+            self.write(name + "/file", name.encode())
+
+    def files(self) -> Dict[str, bytes]:
+        return {name: self.read(name + "/file") for name in os.listdir(self.folder) if os.path.exists(self.path(name + "/file"))}
+
+    def test_a_new_name(self) -> None:
+        os.symlink("nowhere", self.path("link"))
+        for new in (b"two", b"link"):
+            with self.assertRaises(FileExistsError):
+                linux.rename_new(b"one", new, self.above)
+        linux.rename_new(b"one", b"new", self.above)
+        self.assertEqual(self.files(), {"new": b"one", "two": b"two"})
+        self.assertTrue(os.path.islink(self.path("link")))
+
+    def test_two_names(self) -> None:
+        linux.exchange(b"one", b"two", self.above)
+        self.assertEqual(self.files(), {"one": b"two", "two": b"one"})
+        with self.assertRaises(FileNotFoundError):
+            linux.exchange(b"gone", b"two", self.above)
+        self.assertEqual(self.files(), {"one": b"two", "two": b"one"})
 
 
 class Lists(unittest.TestCase):

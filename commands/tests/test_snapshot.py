@@ -292,6 +292,23 @@ ln -sf kept 'l\nf'; rm folder gone; mkdir folder; mv d1 d && mv d2 d1 && mv d d2
         self.expect_status(self.snapshot("new", "tree"), 1, b"/a/1: has an ACL of more than 4096 entries, which facl does not take\n")
         self.assertEqual(self.below_tree(), [b"", b"a/"])
 
+    def test_lists_that_are_not_valid(self) -> None:
+        """A file system of a user's process, or of a disk that somebody wrote, may give any bytes: the file is left out."""
+        user, own, other, mask = ((tag, 4, acl_bytes.NO_ID) for tag in (
+            acl_bytes.USER_OBJ, acl_bytes.GROUP_OBJ, acl_bytes.OTHER, acl_bytes.MASK))
+        named = acl_bytes.USER, 4, 9
+        for entries in ((), (user, own), (user, other), (own, other), (user, own, (acl_bytes.OTHER, 8, acl_bytes.NO_ID)),
+                        (user, own, other, (0x40, 4, 7)), (user, named, own, other), (user, named, own, mask, other, (0, 0, 0))):
+            data = acl_bytes.HEAD + b"".join(acl_bytes.ENTRY.pack(*entry) for entry in entries)
+            for wrong in (data, data + b"\0", data[1:]):
+                with self.assertRaises(list_texts.NoList, msg=entries) as raised:
+                    list_texts.text_of(b"", wrong)
+                self.assertEqual(raised.exception.text, b"has an ACL that is not valid")
+        self.add_code(LISTS % (acl_bytes.HEAD + acl_bytes.ENTRY.pack(0x40, 8, 0), b"")
+                      + "of_all = attribute\nwalking.live.attribute = lambda name, key: of_all(name, key) if not os.path.isdir(name) else None\n")
+        self.expect_status(self.snapshot("new", "tree"), 1, b"/a/1: has an ACL that is not valid\n")
+        self.assertEqual(self.below_tree(), [b"", b"a/"])
+
     def recorded(self, *words: str) -> List[bytes]:
         """The names below tree of a snapshot by these words."""
         self.expect_status(self.snapshot(*words, "new", "tree"), 0)
@@ -399,8 +416,9 @@ ln -sf kept 'l\nf'; rm folder gone; mkdir folder; mv d1 d && mv d2 d1 && mv d d2
     def test_texts_that_are_kept(self) -> None:
         """Whoever writes long lists does not fill the memory with them."""
         texts = list_texts.Known(partial(list_texts.text_of, b""))
+        others = {(tag, acl_bytes.NO_ID): 4 for tag in (*acl_bytes.ALONE, acl_bytes.MASK)}
         for number in range(40):
-            entries: acl_bytes.Entries = {(acl_bytes.USER, 100_000 * number + it): 4 for it in range(4000)}
+            entries: acl_bytes.Entries = {**others, **{(acl_bytes.USER, 100_000 * number + it): 4 for it in range(4000)}}
             self.assertEqual(len(texts[acl_bytes.bytes_of(entries)].users), 4000)
             self.assertLessEqual(sum(len(it.lines) for it in texts.values()), list_texts.MOST_KEPT)
         self.assertGreater(len(texts), 1)

@@ -19,7 +19,7 @@ from typing import Dict, List, Optional
 
 from lib.live_tree import MALLORY, Check, Done, become, copy, expect, make, mounted, must, remove, run, run_parts
 
-LOCK, MADE = "lock.of-facl-daily", "made.by-facl-daily"
+LOCK, MADE, FOUND = "lock.of-facl-daily", "made.by-facl-daily", "found.by-facl-daily"
 SIGNALS = [signal.SIGKILL] * 6 + [signal.SIGHUP, signal.SIGINT, signal.SIGQUIT, signal.SIGTERM]
 SENDMAIL = b'#!/bin/sh\ncat >"$0.new" && cat "$0.new" >>"$0.mails"\n'
 CHANGED = b"== changes since "
@@ -95,9 +95,9 @@ class Daily(Check):
         return text
 
     def snapshots(self) -> List[str]:
-        """The names in the list; DIR has these, the list and the lock."""
+        """The names in the list; DIR has these, the list, the lock, and what was said of findings."""
         names = self.read("kept/" + MADE).decode().splitlines() if os.path.exists(self.name("kept/" + MADE)) else []
-        there = {os.fsdecode(it) for it in os.listdir(self.name("kept"))} - {LOCK, MADE}
+        there = {os.fsdecode(it) for it in os.listdir(self.name("kept"))} - {LOCK, MADE, FOUND}
         expect(there == set(names), f"in DIR: {there}, in the list: {names}")
         return names
 

@@ -180,9 +180,9 @@ def say_without_row(command: Command, records: List[Record]) -> None:
                             + b" to the %s id %d, which has no %s now" % (kind, number, kind))
 
 
-def say_removed(command: Command, way: Direction) -> int:
+def say_removed(command: Command, removed: List[User]) -> int:
     """Names the users whom by_hand has removed, and who are not there again. Returns how many."""
-    gone = [it for it in planned_by_hand.removed_users(way.folder) if not is_there(it)]
+    gone = [it for it in removed if not is_there(it)]
     for it in gone:
         command.say(b"user " + write_name(it.name) + b": was removed by by_hand, and does not come back")
     return len(gone)
@@ -195,24 +195,25 @@ def is_there(user: User) -> bool:
         return False
 
 
-def by_hand(way: Direction) -> List[bytes]:
-    """The line that names what is to be done by hand, where there is something. It is made before anything is touched:
-    a script that cannot be read has no part in what is said of the files."""
+def by_hand(way: Direction) -> Tuple[List[bytes], List[User]]:
+    """The line that names what is to be done by hand, where there is something, and of a way back whom by_hand has removed. It is
+    read before anything is touched: what cannot be read has no part in what is said of the files."""
     try:
         is_left = planned_by_hand.is_left(way.folder, way.is_undo)
+        removed = planned_by_hand.removed_users(way.folder) if way.is_undo else []
     except Failure as failure:
         if not way.is_undo:  # The way back of files does not depend on it.
             raise
-        return [failure.text]
+        return [failure.text], []
     what, name = (b"to take back what by_hand did", b"by_hand_undo") if way.is_undo else (b"still to be done by hand", b"by_hand")
-    return [what + b": sh " + shell_word(way.file(name))] if is_left else []
+    return [what + b": sh " + shell_word(way.file(name))] if is_left else [], removed
 
 
 def body(command: Command, words: List[str]) -> int:
     given = parse(words)
     live.check_proc()
     way = read_way(plan_folder.open_plan(os.fsencode(given.plan)), given.undo)
-    rest = by_hand(way)
+    rest, removed = by_hand(way)
     if nothing_to_do(command, way):
         for line in rest:
             command.tell(line)
@@ -245,5 +246,5 @@ def body(command: Command, words: List[str]) -> int:
         command.tell(line)
     if status == DONE and way.is_undo:
         say_without_row(command, [way.end(path) for path in carrier.seen])
-        return NOT_DONE if say_removed(command, way) else DONE
+        return NOT_DONE if say_removed(command, removed) else DONE
     return status

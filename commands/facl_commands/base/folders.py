@@ -140,15 +140,16 @@ def parts_in(folder: int) -> List[bytes]:
     return []
 
 
-def remove_snapshot(name: bytes, above: int) -> bool:
-    """Removes the files in the folder of a snapshot and of its parts, and the folders in which nothing else is; whether it is gone."""
+def remove_snapshot(name: bytes, above: int, may_have_parts: bool = True) -> bool:
+    """Removes the files in the folder of a snapshot and of its parts, which have none themselves, and the folders in which nothing
+    else is; whether it is gone."""
     with held(os.open(name, DIRECTORY, dir_fd=above)) as folder:
         for known in FILES:
             with contextlib.suppress(FileNotFoundError, IsADirectoryError):
                 os.unlink(known, dir_fd=folder)
-        for part in sorted(filter(PART.fullmatch, map(os.fsencode, os.listdir(folder)))):
+        for part in sorted(filter(PART.fullmatch, map(os.fsencode, os.listdir(folder)))) if may_have_parts else ():
             if stat.S_ISDIR(os.stat(part, dir_fd=folder, follow_symlinks=False).st_mode):
-                remove_snapshot(part, folder)
+                remove_snapshot(part, folder, may_have_parts=False)
     with contextlib.suppress(OSError):
         os.rmdir(name, dir_fd=above)
         return True

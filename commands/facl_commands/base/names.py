@@ -48,7 +48,8 @@ def read_path(text: bytes) -> bytes:
 
 def number_of(digits: bytes) -> int:
     """The number of decimal digits; of so many that it is above all ids, one that is."""
-    return int(digits) if len(digits.lstrip(b"0")) <= LONGEST_ID else ABOVE_ALL_IDS
+    plain = digits.lstrip(b"0") or b"0"  # Python takes no more than 4,300 digits, zeros too.
+    return int(plain) if len(plain) <= LONGEST_ID else ABOVE_ALL_IDS
 
 
 def path_order(path: bytes) -> List[bytes]:

@@ -46,7 +46,7 @@ def ids_of(text: bytes) -> List[Tuple[bytes, bytes]]:
 
 
 def users_in(passwd: bytes) -> List[User]:
-    return [User(row[0], int(row[2]), int(row[3])) for row in rows_of(passwd)]
+    return [User(row[0], number_of(row[2]), number_of(row[3])) for row in rows_of(passwd)]
 
 
 def first_like(users: Iterable[User], name: bytes) -> Optional[User]:
@@ -107,7 +107,7 @@ class People:
 
     def __init__(self, passwd: bytes, group: bytes) -> None:
         self.users = users_in(passwd)
-        self.groups = [Group(row[0], int(row[2]), [it for it in row[3].split(b",") if it]) for row in rows_of(group)]
+        self.groups = [Group(row[0], number_of(row[2]), [it for it in row[3].split(b",") if it]) for row in rows_of(group)]
 
     def change(self, words: List[bytes]) -> Optional[PeopleChange]:
         """Does what an accepted line does, and returns it; None where nothing changes."""
@@ -175,7 +175,7 @@ def superusers_among(users: Iterable[Tuple[bytes, int]]) -> Set[bytes]:
 
 
 def ids_in(passwd: bytes) -> Dict[bytes, int]:
-    return {row[0]: int(row[2]) for row in rows_of(passwd) if len(row) > 2 and row[2].isdigit()}
+    return {row[0]: number_of(row[2]) for row in rows_of(passwd) if len(row) > 2 and row[2].isdigit()}
 
 
 class Superusers:

@@ -8,7 +8,7 @@ from typing import Dict, Iterable, List, Set
 
 from ..base.accounts import SUPERUSER, is_person
 from ..base.beside import of_mount
-from ..base.names import read_name
+from ..base.names import number_of, read_name
 from ..base.programs import judge_text
 from ..model import meta
 from ..model.entries import read_record
@@ -34,7 +34,7 @@ class Probes:
         everybody = everybody_in(lambda: (snapshot.passwd, snapshot.group, changes, *bodies))
         self.passwd, self.group = everybody.with_user(snapshot.passwd), everybody.with_group(snapshot.group)
         mentioned = {gid for body in bodies for gid in read_record(body).mentioned_groups()}
-        groups = [row for row in rows_of(snapshot.group) if int(row[2]) in mentioned]
+        groups = [row for row in rows_of(snapshot.group) if number_of(row[2]) in mentioned]
         token = os.urandom(8).hex().encode()
         self.whos = [Who("group", row[0], b"probe-%s-%d" % (token, place)) for place, row in enumerate(groups)]
         self.lines = b"".join(ADD_USER_WITH % (uid, row[2], who.user) + b"\n"

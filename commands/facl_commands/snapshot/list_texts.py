@@ -11,7 +11,7 @@ from functools import partial
 from typing import Callable, Dict, FrozenSet, NamedTuple, Optional, Tuple, TypeVar
 
 from ..base import acl_bytes, linux
-from ..base.acl_bytes import ENTRY, GROUP, GROUP_CLASS, GROUP_OBJ, HEAD, MASK, NAMED, NO_ID, OTHER, USER, USER_OBJ, minimal
+from ..base.acl_bytes import ALONE, ENTRY, GROUP, GROUP_CLASS, GROUP_OBJ, HEAD, MASK, NAMED, NO_ID, OTHER, USER, USER_OBJ, minimal
 from ..base.messages import Failure
 
 MOST_ENTRIES = 4096  # Of a list, which the program takes.
@@ -83,6 +83,9 @@ def entries_of(data: bytes) -> Tuple[acl_bytes.Entries, bool]:
     for tag, bits, number in ENTRY.iter_unpack(data[4:]):
         key = tag, number if tag in NAMED else NO_ID
         found[key] = found.get(key, 0) | bits if tag == GROUP else found.get(key, bits)
+    tags = {tag for tag, _ in found}
+    if not {*ALONE} <= tags <= {*TAGS} or {*NAMED} & tags and MASK not in tags or max(found.values()) > 7:
+        raise NoList(b"has an ACL that is not valid")
     if len(found) > MOST_ENTRIES:
         raise NoList(b"has an ACL of more than %d entries, which facl does not take" % MOST_ENTRIES)
     return found, len(found) != number_of_entries

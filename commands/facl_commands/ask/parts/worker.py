@@ -17,7 +17,7 @@ from typing import Any, Dict, Iterable, Iterator, List, NamedTuple, Optional, Tu
 
 from ...base.folders import folder_of
 from ...base.messages import Command
-from ...base.names import is_at_or_below, path_word, read_name, read_path, script_word
+from ...base.names import is_at_or_below, number_of, path_word, read_name, read_path, script_word
 from ...model import meta, overview, sources
 from ...model.everybody import ElseAnswers, people_in, read_everybody, session_with
 from ...model.marks import alone, marks_of, not_judged
@@ -214,7 +214,7 @@ def answer(command: Command, session: Session, unit: Unit, shared: SharedFiles) 
 
 def head_of(folder: bytes, size: int, is_acl5: bool) -> Head:
     found = overview.read_texts(folder)
-    users, groups = ({row[0].decode("latin-1"): int(row[2]) for row in rows_of(rows)} for rows in (found.passwd, found.group))
+    users, groups = ({row[0].decode("latin-1"): number_of(row[2]) for row in rows_of(rows)} for rows in (found.passwd, found.group))
     unknown = [*overview.unknown(folder, found.dump), *overview.torn(found), *not_judged(folder), *alone(marks_of(folder))]
     otherwise = list(overview.judged_otherwise(found.dump)) if is_acl5 else []
     asked = meta.users_asked_for(meta.meta_of(folder)) or 0

@@ -127,7 +127,7 @@ class Comparison:
     def read(self) -> List[Pair]:
         """What differs in the files that are looked at, and the directories above them; all others are counted."""
         folders = self.folders or [b""]
-        self.shapes = Shapes(folders)
+        self.shapes = Shapes(folders, self.states[0].has_people_of(self.states[1]))
         old, new = (records_of_folders(blocks_in(it), folders) for it in self.listings)
         pairs = self.shapes.read(walk(old, new))
         counted = self.counted(pairs)

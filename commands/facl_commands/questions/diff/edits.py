@@ -7,7 +7,7 @@ from __future__ import annotations
 import re
 from typing import Iterable, Iterator, List
 
-from ...base.names import is_below, path_word, script_word, write_user
+from ...base.names import is_below, number_of, path_word, script_word, write_user
 from ...model.people import People, groups_by_user, rows_of, user_word
 from ...program.protocol import IN_LINE, RESTORE
 from ...program.scripts import words_of
@@ -35,7 +35,7 @@ def group_text(old: State, new: State) -> bytes:
     """The groups before, with a row without members for each other id that a user has afterwards. A bad row stays, and
     the program names it."""
     rows = [row for row in rows_of(old.group) if len(row) > 2 and row[2].isdigit()]
-    names, ids = {row[0] for row in rows}, {int(row[2]) for row in rows}
+    names, ids = {row[0] for row in rows}, {number_of(row[2]) for row in rows}
     lacking = {gid for member in members_of(new.people()).values() for gid in member.groups} - ids
     text = old.group + b"\n" * (old.group[-1:] not in (b"", b"\n"))
     for gid in sorted(lacking):

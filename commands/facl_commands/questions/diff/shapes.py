@@ -83,10 +83,12 @@ class PlacedPair(NamedTuple):
 
 
 class Shapes:
-    """The files of two snapshots by their shapes; those are counted that are in some folders."""
+    """The files of two snapshots by their shapes; those are counted that are in some folders. Where the users and groups are the
+    same before and after, files are passed over whose records and directories above are the same too: nobody may do anything else
+    with them."""
 
-    def __init__(self, folders: Sequence[bytes]) -> None:
-        self.folders = folders
+    def __init__(self, folders: Sequence[bytes], has_same_people: bool = False) -> None:
+        self.folders, self.has_same_people = folders, has_same_people
         self.bodies: Numbered[bytes] = Numbered()
         # Directories from the root on: the number of those above the last one, and that of its record.
         self.ways: Numbered[Tuple[int, int]] = Numbered()
@@ -137,8 +139,24 @@ class Shapes:
         self.last = name, (bodies[0], bodies[1])
         self.place += 1
 
+    def pass_over(self, records: List[bytes]) -> None:
+        """Keeps the directories of some files alone, since files that differ may follow in them."""
+        for record in records:
+            first = record[: record.index(b"\n")]
+            if first[-1:] == b"/" or first == ROOT:
+                name, body = name_in(first), record[len(first) + 1 :]
+                self.enter(name.rpartition(b"/")[0])
+                self.last = name, (body, body)
+        self.place += len(records)
+
     def add_same(self, records: List[bytes]) -> None:
         """Counts files in the order of their paths. There may be a million: of each little is looked at."""
+        if self.has_same_people and records:
+            changed = self.enter(name_in(records[0].partition(b"\n")[0]).rpartition(b"/")[0]).changed
+            self.last = b"", (None, None)  # It was entered, or nothing is in it.
+            if changed == NONE:
+                self.pass_over(records)
+                return
         is_all, here, level = self.folders == [b""], None, self.levels[-1]
         name, body = b"", b""
         for place, record in enumerate(records, self.place):

@@ -38,6 +38,9 @@ class State(NamedTuple):
     def named(self) -> bytes:
         return meta.named(self.folder, self.about)
 
+    def has_people_of(self, other: State) -> bool:
+        return (self.passwd, self.group) == (other.passwd, other.group)
+
     def with_everybody(self, everybody: Everybody) -> State:
         """With everybody else among the users."""
         return self._replace(passwd=everybody.with_user(self.passwd), group=everybody.with_group(self.group))
