@@ -75,15 +75,15 @@ def version() -> bytes:
 
 def start(command: Command, verb: Verb, given: argparse.Namespace) -> int:
     """Runs what the row of a verb says. What the edits of a plan are made of is what they are planned over: it is opened once."""
-    given.paths, given.takes_parts, given.after = paths_in(verb, given), verb.takes_parts(), int
+    given.paths, given.takes_parts, given.finish = paths_in(verb, given), verb.takes_parts(), int
     with kept() if verb.group == CHANGING else contextlib.nullcontext():
         verb.prepare(command, given)
         option, other = verb.instead
         is_other = bool(option) and bool(getattr(given, option))
         module = importlib.import_module("%s.%s" % (PACKAGE, other if is_other else verb.module))
         run: Callable[..., int] = module.body
-        after: Callable[[int], int] = given.after  # What is said after it, and the status then.
-        return after(run(command, words_of(verb, given) if verb.words and not is_other else given))
+        finish: Callable[[int], int] = given.finish  # What is said after it, and the status then.
+        return finish(run(command, words_of(verb, given) if verb.words and not is_other else given))
 
 
 def answer_part(command: Command, words: List[str]) -> int:

@@ -188,14 +188,14 @@ def source_of(given: argparse.Namespace) -> Source:
 
 def take_user_job(command: Command, given: argparse.Namespace, name: str, found: JobPlan) -> None:
     """Has facl-plan make a plan of a job; what it leaves to be done is said after the plan, and the status is 1 then."""
-    def after(status: int) -> int:
+    def finish(status: int) -> int:
         for text in [*([] if given.quiet else found.said), *found.left]:
             command.say(text)
         return REMAINS if found.left else status
 
     take_edits(given, found.edits)
     given.output = given.output or "%s-%s.plan" % (name, os.fsdecode(found.about))
-    given.after = after
+    given.finish = finish
 
 
 def ask(command: Command, given: argparse.Namespace) -> None:
