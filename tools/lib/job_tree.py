@@ -41,8 +41,9 @@ END, ENDED = "getfacl -c .", "user::rwx\ngroup::r-x\nother::r-x\n"  # A line bet
 Rights = Dict[str, FrozenSet[Tuple[str, str]]]  # By user: files, each with a letter.
 
 
-def run(*words: str, statuses: Tuple[int, ...] = (0,), variables: Dict[str, str] = {}) -> subprocess.CompletedProcess[str]:
-    done = subprocess.run(words, env={**os.environ, **variables}, capture_output=True, text=True, check=False)
+def run(*words: str, statuses: Tuple[int, ...] = (0,), variables: Dict[str, str] = {},
+        given: str = "") -> subprocess.CompletedProcess[str]:
+    done = subprocess.run(words, env={**os.environ, **variables}, input=given, capture_output=True, text=True, check=False)
     if done.returncode not in statuses:
         raise Failed(f"{' '.join(words)}: status {done.returncode}: {done.stdout[-300:]} {done.stderr[-600:]}")
     return done
@@ -153,8 +154,8 @@ class JobTree:
             if self.chance.random() < 0.4:
                 run("setfacl", "-n", "-m", "m::" + self.chance.choice(("r--", "r-x", "rw-")), path)
 
-    def facl(self, *words: str, statuses: Tuple[int, ...] = (0,)) -> subprocess.CompletedProcess[str]:
-        return run(FACL, *words, statuses=statuses, variables=self.variables)
+    def facl(self, *words: str, statuses: Tuple[int, ...] = (0,), given: str = "") -> subprocess.CompletedProcess[str]:
+        return run(FACL, *words, statuses=statuses, variables=self.variables, given=given)
 
     def rows(self, *words: str) -> List[List[str]]:
         """The fields of an answer, without its titles."""

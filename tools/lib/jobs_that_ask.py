@@ -88,11 +88,12 @@ def daily(tree: JobTree) -> JobResult:
 
 def rules(tree: JobTree) -> JobResult:
     rights, faults, lines, wanted = tree.granted(), [], [], {}
+    may_write_there = {user: frozenset(it for it in its if not os.path.isdir(it[0]) or (it[0], "x") in its) for user, its in rights.items()}
     for folder in [SHARE, *filter(os.path.isdir, tree.some(tree.count))][:SOME]:
         for user in USERS:
             for word, letter in QUESTIONS[:2]:
                 lines.append(f"never {user} {word} '{folder}'")
-                wanted[str(len(lines))] = count_of(rights, user, letter, folder)
+                wanted[str(len(lines))] = count_of(may_write_there if letter == "w" else rights, user, letter, folder)
     write(tree.name("rules"), "".join(f"{line}\n" for line in lines))
     broken = {row[0]: int(row[3]) for row in tree.rows("check", tree.name("rules"))}
     for line, count in wanted.items():
@@ -106,14 +107,14 @@ def rules(tree: JobTree) -> JobResult:
 def pages(tree: JobTree) -> JobResult:
     """The page of the tree, and that of a folder for its owner, with a box at entries."""
     faults: List[str] = []
-    for words, part in ((["page"], "<script"), (["review", SHARE], 'type="checkbox"')):
+    for words, part in ((["page"], "<script"), (["review", SHARE], 'type: "checkbox"')):
         page = tree.name(f"{words[0]}.html")
         tree.facl(*words, "-o", page)
         with open(page, encoding="utf-8") as file:
             text = file.read()
         faults += [f"{words[0]}: the page has no {it}" for it in ("<!DOCTYPE html>", part, "</html>") if it not in text]
         again = tree.facl(*words, "-o", page, statuses=(2,))
-        faults += [f"{words[0]}: {again.stderr}"] * ("is already there" not in again.stderr)
+        faults += [f"{words[0]}: {again.stderr}"] * ("exists and is not replaced" not in again.stderr)
     return JobResult(set(), faults)
 
 
@@ -143,7 +144,7 @@ def two_servers(tree: JobTree) -> JobResult:
     tree.variables["PATH"] = f"{tree.work}:{os.environ['PATH']}"
     folder = os.path.join(tree.variables["FACL_STORE"], tree.last())
     write(tree.name("script"), "".join(f"may --reach dora {letter}\n" for letter in LETTERS))
-    done = tree.facl("ask", "--hosts", f"one:{folder}", f"two:{folder}", "down:/nowhere", tree.name("script"), statuses=(2,))
+    done = tree.facl("ask", "--hosts", f"one:{folder}", f"two:{folder}", "down:/nowhere", statuses=(2,), given=tree.read(tree.name("script")))
     wanted, faults = tree.facl("ask", "-q", "-s", folder, tree.name("script")).stdout.splitlines(), []
     for name in ("one", "two"):
         lines = [line[5:] for line in done.stdout.splitlines() if line.startswith(f"{name}: ")]

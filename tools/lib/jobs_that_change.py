@@ -58,7 +58,7 @@ def full_disk(tree: JobTree) -> JobResult:
     """A file system that is full before each file has its list: all is back."""
     image, small = tree.name("image"), [f"{DISK}/f{number}" for number in range(FILES_ON_DISK)]
     run("truncate", "-s", "1M", image)
-    run("mkfs.ext4", "-q", "-b", "1024", "-I", "128", "-N", "128", "-O", "^has_journal", "-F", image)
+    run("mkfs.ext4", "-q", "-b", "1024", "-m", "0", "-I", "128", "-N", "128", "-O", "^has_journal", "-F", image)
     os.mkdir(DISK)
     run("mount", "-o", "loop", image, DISK)
     try:
@@ -81,13 +81,20 @@ def full_disk(tree: JobTree) -> JobResult:
     return JobResult(set(), faults)
 
 
+def state_of(plan: str) -> str:
+    try:
+        return JobTree.read(f"{plan}/state").strip()
+    except FileNotFoundError:
+        return ""
+
+
 def killed_in_the_middle(tree: JobTree) -> JobResult:
     before, made = tree.listing(), tree.plan("plan", "-e", f"setfacl -R -m u:dora:rwx,d:u:dora:rwx {SHARE}")
     faults, cut = [], 0
     for number in range(KILLS):
         process = subprocess.Popen([FACL, "apply", made.folder], env={**os.environ, **tree.variables}, stdout=subprocess.DEVNULL,
                                    stderr=subprocess.DEVNULL, start_new_session=True)
-        while process.poll() is None and tree.read(f"{made.folder}/state").strip() != "applying":
+        while process.poll() is None and state_of(made.folder) != "applying":
             pass
         time.sleep(number * 0.002)
         with contextlib.suppress(ProcessLookupError):
