@@ -119,7 +119,8 @@ def restored_folder(tree: JobTree) -> JobResult:
     write(elsewhere, "", 0o600)
     made = tree.plan("restore", folder, "-s", monday)
     apply_plan(tree, made.folder, (0,))
-    faults = [f"restore: {folder} is not as it was"] * (tree.listing(folder) != before) + ["restore: a new file is gone"] * (not os.path.exists(elsewhere))
+    faults = [f"restore: {folder} is not as it was"] * (tree.listing(folder) != before)
+    faults += ["restore: a new file is gone"] * (not os.path.exists(elsewhere))
     os.unlink(elsewhere)
     return JobResult(set(), faults)
 
