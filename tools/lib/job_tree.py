@@ -71,7 +71,8 @@ def system(work: str) -> Iterator[None]:
     run("mount", "--make-rprivate", "/")
     for place in ("/etc", "/var/lib/sss", "/var/log/sssd"):
         copied(place, work)
-    run("mount", "-t", "tmpfs", "-o", "mode=755", "tmpfs", "/srv")
+    for place in ("/srv", "/run"):  # sssd has its number in /run.
+        run("mount", "-t", "tmpfs", "-o", "mode=755", "tmpfs", place)
     for database, *sides in (("passwd", LOCAL.items(), OF_SERVICE.items()), ("group", GROUPS.items(), SERVICE_GROUPS.items())):
         ends = ":/nonexistent:/bin/sh" if database == "passwd" else ""
         rows = [[f"{name}:x:{one}:{other}{':' * bool(ends)}{ends}\n" for name, (one, other) in its] for its in sides]
@@ -146,13 +147,13 @@ class JobTree:
             else:
                 write(path, "")
             os.chown(path, self.chance.choice(ids), self.chance.choice([71100, 71200, 210000, 71001]))
-            os.chmod(path, self.chance.choice((0o755, 0o775, 0o750, 0o640)))
+            os.chmod(path, self.chance.choice((0o755, 0o775, 0o750, 0o640, 0o606)))
             if self.chance.random() < 0.7:
                 run("setfacl", "-m", self.entries(3), path)
             if path in folders and self.chance.random() < 0.5:
                 run("setfacl", "-d", "-m", self.entries(2), path)
             if self.chance.random() < 0.4:
-                run("setfacl", "-n", "-m", "m::" + self.chance.choice(("r--", "r-x", "rw-")), path)
+                run("setfacl", "-n", "-m", "m::" + self.chance.choice(("r--", "r-x", "rw-", "---")), path)
 
     def facl(self, *words: str, statuses: Tuple[int, ...] = (0,), given: str = "") -> subprocess.CompletedProcess[str]:
         return run(FACL, *words, statuses=statuses, variables=self.variables, given=given)

@@ -88,7 +88,8 @@ def daily(tree: JobTree) -> JobResult:
 def rules(tree: JobTree) -> JobResult:
     rights, faults, lines, wanted = tree.granted(), [], [], {}
     may_write_there = {user: frozenset(it for it in its if not os.path.isdir(it[0]) or (it[0], "x") in its) for user, its in rights.items()}
-    for folder in [SHARE, *filter(os.path.isdir, tree.some(tree.count))][:SOME]:
+    folders = [SHARE, *filter(os.path.isdir, tree.some(tree.count))]
+    for folder in folders[:SOME]:
         for user in USERS:
             for word, letter in QUESTIONS[:2]:
                 lines.append(f"never {user} {word} '{folder}'")
@@ -97,7 +98,7 @@ def rules(tree: JobTree) -> JobResult:
     broken = {row[0]: int(row[3]) for row in tree.rows("check", tree.name("rules"))}
     for line, count in wanted.items():
         faults += [f"{lines[int(line) - 1]}: {broken.get(line, 0)}, and {count} by the kernel"] * (broken.get(line, 0) != count)
-    write(tree.name("rules"), tree.facl("rules").stdout)
+    write(tree.name("rules"), tree.facl("rules", *folders).stdout)
     holding = tree.facl("check", tree.name("rules"), statuses=(0, 1))
     faults += [f"facl rules: do not hold: {holding.stdout}"] * bool(holding.returncode)
     return JobResult(set(), faults + ["no rule holds, or none is broken"] * (not 0 < len(broken) < len(lines)))
@@ -156,7 +157,7 @@ def old_backup(tree: JobTree) -> JobResult:
     monday = tree.last()
     write(tree.name("dump"), run("getfacl", "-R", "-p", "/srv").stdout)
     tree.facl("import", tree.name("dump"), "-o", tree.name("old"))
-    for path in tree.some(4):
+    for path in tree.some(tree.count // 4):
         run("setfacl", "-b", path)
     tree.snapshot()
     friday = tree.last()
