@@ -6,6 +6,7 @@ import os
 import signal
 import subprocess
 import time
+from typing import Set
 
 from .job_tree import FACL, GROUPS, SHARE, JobResult, JobTree, apply_plan, kernel_grants, run, unlike, write
 from .script import say
@@ -36,22 +37,29 @@ def move_group(tree: JobTree) -> JobResult:
     return JobResult(made.users, [f"the tree still has {it}" for it in (f"group:{gid}:", f"# group: {gid}\n") if it in tree.listing()])
 
 
+def apply_edits(tree: JobTree, edits: str) -> Set[str]:
+    """Plans and applies edits, which may be none; returns whose rights the plan says that it changes."""
+    if not any(line[:1].isalpha() for line in edits.splitlines()):
+        return set()
+    write(tree.name("edits"), edits)
+    made = tree.plan("plan", tree.name("edits"))
+    apply_plan(tree, made.folder, (0,))
+    return made.users
+
+
 def audit_and_fix(tree: JobTree) -> JobResult:
     """A finding with one file accepted: the edits mend all others, and nobody gains or loses what is not said."""
     finding, accepted = "mask-cuts-entry", tree.name("accepted")
     paths = [row[0] for row in tree.rows("audit", "--list", finding)]
     write(accepted, f"{finding} '{paths[0]}' as it should be\n")
     edits = tree.facl("audit", "fix", finding, "--accepted", accepted, statuses=(0, 1)).stdout
-    write(tree.name("edits"), edits)
-    apply_plan(tree, tree.plan("plan", tree.name("edits")).folder, (0,))
+    apply_edits(tree, edits)
     tree.snapshot()
     left = [row[0] for row in tree.rows("audit", "--list", finding)]
     faults = [f"{finding}: {left} are left in place of the accepted one, {paths[0]}"] * ({*left} != {paths[0]} or len({*paths}) < 2)
-    write(tree.name("edits"), tree.facl("audit", "fix", "writer-outside-groups", statuses=(0, 1)).stdout)
-    before, made = tree.granted(), tree.plan("plan", tree.name("edits"))
-    apply_plan(tree, made.folder, (0,))
+    before, may_change = tree.granted(), apply_edits(tree, tree.facl("audit", "fix", "writer-outside-groups", statuses=(0, 1)).stdout)
     gained = [user for user, its in tree.granted().items() if its - before[user]]
-    return JobResult(made.users, faults + [f"audit fix: {gained} gained something"] * bool(gained))
+    return JobResult(may_change, faults + [f"audit fix: {gained} gained something"] * bool(gained))
 
 
 def full_disk(tree: JobTree) -> JobResult:
