@@ -1,6 +1,6 @@
 """Does twenty jobs of a week on a real tree with local users and users of sssd, and compares their ends with the kernel.
 
-usage: tools/check.py jobs PROGRAM [--seed N] [--files N] [--record] [JOB..]      PROGRAM: facl_linux
+usage: tools/check.py jobs PROGRAM [JOB..] [--seed N] [--files N] [--record]      PROGRAM: facl_linux
 
 As root, with sssd and acl, in a mount namespace of its own: /etc, /srv and the folders of sssd are copies there. sssd answers names
 that no list has (enumerate = false). Each job is a function of lib/jobs_that_ask.py, lib/jobs_that_change.py or
@@ -60,7 +60,7 @@ def try_job(name: str, work: str, given: argparse.Namespace) -> JobDone:
 def main() -> int:
     options = options_of(__doc__, seed=1, files=200)
     options.add_argument("jobs", nargs="*", metavar="JOB", choices=[[], *JOBS], default=[])
-    given = options.parse_args()
+    given = options.parse_intermixed_args()
     if os.geteuid() != 0 or not all(map(shutil.which, ("sssd", "setfacl", "mkfs.ext4"))):
         raise Failed("it takes root, sssd, acl and mkfs.ext4")
     with tempfile.TemporaryDirectory(prefix="facl-jobs.") as work, system(work):
