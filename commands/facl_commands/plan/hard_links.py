@@ -24,7 +24,7 @@ RECURSIVE = re.compile(rb"(?:%s)\Z|-[^-%s]*[%s]" % (
     b"|".join(sorted(name for name in DEEP_NAMES if len(name) > 2)),
     letters_of({name for tool in WITH_FILES for name in VALUES[tool]}), letters_of(DEEP_NAMES)))
 RECORD = re.compile(rb"\s*#\s*file: ?(.*)", re.DOTALL)  # The first line of a record of a restore.
-FEW_NAMES = 8  # That are asked for one by one if a line of them is refused.
+FEW_NAMES = 8  # That are looked up one by one if a line of them is refused.
 LONGEST_LIST = 4_000  # Bytes of a list in a line, before its names.
 ROOM_FOR_NAMES = 1 << 24  # Bytes of questions by names in a session; after them a directory is listed, by a short line.
 

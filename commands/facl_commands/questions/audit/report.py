@@ -65,7 +65,7 @@ class AuditReport:
         return [kind for weight in WEIGHTS for kind in KINDS if kind.weight == weight and self.findings.get(kind.name)]
 
     def shown(self) -> List[KindOfFinding]:
-        """Those of the weight of --weight and above; one that is asked for by its name in any case."""
+        """Those of the weight of --weight and above; one that is named in any case."""
         asked, weights = self.given.list or self.given.edits, WEIGHTS[: WEIGHTS.index(self.given.weight) + 1]
         return [kind for kind in self.kinds() if (kind.weight in weights if asked is None else kind.name == asked)]
 
@@ -217,7 +217,7 @@ def table_of_files(found: FoundFiles, is_whole: bool) -> Table:
 
 
 def json_of_kind(report: AuditReport, kind: KindOfFinding) -> Dict[str, object]:
-    """A finding with its first files; with all of them where only that is asked for."""
+    """A finding with its first files; with all of them if only that finding is printed."""
     found, has_all = report.findings[kind.name], report.given.list is not None or report.given.edits is not None
     files = [{"path": report.json_name(it.path), "what": json_text(it.mend.detail), "edit": json_text(it.line(report.is_whole)),
               "may_be_meant": json_text(it.mend.meant), "decide": json_text(it.mend.decide)}
