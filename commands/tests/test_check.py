@@ -276,8 +276,8 @@ class Digits(Checks):
 
     def test_a_user_whom_no_question_names(self) -> None:
         self.take(TREE, passwd=PASSWD + b"2024:x:1009:1009::/:\n")
-        self.expect(self.check(b"never '2024' read srv/hr/\n"), 2, b"", b"facl-check: user \"2024\" cannot be asked for: digits alone "
-                    b"mean an id, and the id of this user is also that of xaver\n")
+        self.expect(self.check(b"never '2024' read srv/hr/\n"), 2, b"", b"facl-check: user \"2024\" cannot be named in a "
+                    b"question: digits alone mean an id, and the id of this user is also that of xaver\n")
 
     def test_rows_of_one_id(self) -> None:
         self.take(TREE, group=GROUP + b"more:x:2001:carl\n")

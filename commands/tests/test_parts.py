@@ -269,7 +269,8 @@ class People(unittest.TestCase):
         users = people.users_in(b"ann:x:1:1::/:\n7:x:8:1::/:\n9:x:1:1::/:\na b:x:010:1::/:\n12:x:011:1::/:\n")
         for name, word in ((b"ann", b"'ann'"), (b"7", b"'8'"), (b"9", None), (b"8", None), (b"a b", b"'a\\040b'"), (b"12", b"'11'"), (b"it's", b"'it\\047s'")):
             self.assertEqual(people.user_word(users, name), word)
-        with self.assertRaisesRegex(Failure, 'user "nine" cannot be asked for: digits alone mean an id, and the id of this user is also that of ann'):
+        said = 'user "nine" cannot be named in a question: digits alone mean an id, and the id of this user is also that of ann'
+        with self.assertRaisesRegex(Failure, said):
             people.needed_word(users, b"9", b"nine")
 
     def test_who_is_in_a_group(self) -> None:

@@ -71,7 +71,7 @@ def needed_word(users: Iterable[User], name: bytes, said: bytes) -> bytes:
     word, first = user_word(known, name), first_like(known, name)
     if word is None:
         its = b", and the id of this user is also that of " + write_user(first.name) if first is not None else b""
-        raise Failure(b"user \"%s\" cannot be asked for: digits alone mean an id" % said + its)
+        raise Failure(b"user \"%s\" cannot be named in a question: digits alone mean an id" % said + its)
     return word
 
 
