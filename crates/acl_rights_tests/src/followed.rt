@@ -38,8 +38,8 @@ pub fn follow(
     }
 }
 
-/// How many labels a command fetches, and how many verdicts along paths it makes again, on a state and its index; the
-/// rows and the state after it are given up.
+/// How many labels a command fetches, and how many verdicts along paths count as possibly new or other ones, on a state
+/// and its index; the rows and the state after it are given up.
 fn given_up(
     alloc: Global,
     judge: &mut OwnerAlone,

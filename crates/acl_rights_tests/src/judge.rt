@@ -14,7 +14,7 @@ pub struct OwnerAlone {
 }
 
 impl OwnerAlone {
-    /// No verdict was asked for yet.
+    /// Returns a judge that has decided no verdict yet.
     pub fn new() -> OwnerAlone
         ensures { result.asked ≡ 0 }
     {

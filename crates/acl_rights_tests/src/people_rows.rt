@@ -193,7 +193,7 @@ pub static NOBODY_IS_LOADED: [Row; 5] = [
     },
 ];
 
-/// No file has f's label while a user comes. Run then gets the label that f has, which is asked for no more.
+/// No file has f's label while a user comes. Run then gets the label that f has, which is not judged again.
 pub static COMES_BACK: [Row; 4] = [
     Row {
         line: Line::Chmod(0o600, b"f"),

@@ -18,7 +18,7 @@ pub struct World {
     pub judge: Posix,
 }
 
-/// What a line costs: verdicts asked for, labels fetched, and verdicts along paths that are made again.
+/// What a line costs: verdicts, labels that are fetched, and verdicts along paths that count as possibly new or other ones.
 #[derive(Drop)]
 pub struct Costs {
     pub asked: u64,
@@ -73,8 +73,8 @@ pub fn asked_by_build(alloc: Global, state: &State) -> Option<u64> {
 /// What a user may do with a file after a line: the user's place, the file, and the byte of the requests.
 pub type Verdict = (usize, &'static [u8], u8);
 
-/// A line with its costs: the verdicts that it asks for, at least and at most, and how many labels it fetches and
-/// verdicts along paths it makes again. Then some verdicts after it, and some along paths.
+/// A line with its costs: the verdicts that it asks for, at least and at most, how many labels it fetches, and how many
+/// verdicts along paths count as possibly new or other ones. Then some verdicts after it, and some along paths.
 pub struct Row {
     pub line: Line,
     pub asked: (u64, u64),

@@ -39,7 +39,7 @@ kind_for false true = Some (Some Directory)
 kind_for false false = Some None
 
 -- what is printed: `--list` comes with `--user`, `--user` with `--list` or `--depth`, and these two exclude each other;
--- their values are digits alone
+-- their values are digits alone, at most 4294967294
 abbrev pub shown_for : (user list depth : Option Text) → Option Shown
 shown_for None None None = Some Counts
 shown_for None None (Some depth) = option_map (λ n. Folders None n) (id_of depth)

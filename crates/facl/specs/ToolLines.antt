@@ -1,4 +1,4 @@
--- The line of a tool as one value, and what it does: for inner functions, and for the laws of what is refused.
+-- The line of a tool as one value, and what it does: for inner functions, `read_words`, and the laws of what is refused.
 use Rattle.std.specs.Prelude.{ℕ, List, Option, Some, ok_or, option_map, Result, Ok}
 use Rattle.acl_rights.specs.Deciders.{Judging}
 use Rattle.acl_text.specs.Results.{◌>>=◌}

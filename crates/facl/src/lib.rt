@@ -1,9 +1,9 @@
 //! A script of access control list tools over a tree of files: what each line prints, and the message of each that is
 //! refused.
 //!
-//! [`run`] loads three texts, answers a script line by line, and writes what each line prints. Its contract is the
-//! whole: what is written are the bytes of a session made from scratch. [`initial_state`] and [`run_from`] are its two
-//! steps, for a caller that frees the texts between them.
+//! [`run`] loads up to three texts, answers a script line by line, and writes what each line prints. Its contract is the
+//! whole: what is written are the bytes of a session made from scratch, for devices whose bytes are known.
+//! [`initial_state`] and [`run_from`] are its two steps, for a caller that frees the texts between them.
 //!
 //! Each tool has one file, in `facl_tools` or, if it asks who may do what, below `tools`: its syntax, its reader from
 //! the words of a line to a value of its own type (`None`: usage), and what it does at a state. `tool_line` reads a

@@ -114,8 +114,8 @@ pub fn run_judged<J: Judge, R: Feed, O: Sink, E: Sink>(
 /// # Errors
 ///
 /// `Setup` is the first text that is refused: nothing is read or written then. `Read`, `Write` and `ScriptTooLong`
-/// are why the script was not answered to its end. `NoMemory`: memory ran out for the setup, for the room of the
-/// `no memory` message, or for a line while it was read (if it runs out for a line's answer, that line alone is
+/// are why the script was not answered to its end. `NoMemory`: memory ran out for the setup and its index, for the room
+/// of the `no memory` message, or for a line while it was read (if it runs out for a line's answer, that line alone is
 /// refused). What was written by then is the start of the session.
 pub fn run<R: Feed, O: Sink, E: Sink>(
     alloc: Global,

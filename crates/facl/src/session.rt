@@ -78,7 +78,7 @@ impl<J: Judge> FaclSession<J> {
         self.lacks_memory = false;
     }
 
-    /// Refuses a line. The message of a line for which memory ran out is written without an allocation.
+    /// Refuses a line. The message of a line for which memory ran out has its room from the start of the session.
     fn refuse(&mut self, number: u64, tool: &[u8], fault: &LineFault)
         requires { IsQuiet self.old }
         ensures answer { (asked : ℕ) → Answers number (refused number tool.now fault.now (states_of self.old)) self.old self.new asked asked true }

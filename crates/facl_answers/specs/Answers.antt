@@ -1,4 +1,4 @@
--- What `can`, `who`, `may` and `index` answer: all users against all files.
+-- What `who`, `may` and `index` print: all users against all files. The line of `can` is in Requests.
 use Rattle.std.specs.Prelude.{ℕ, ◌/◌, ◌%◌, Bool, false, List, [], ◌∷◌, ◌++◌, filter, slice_get, slice_index, codes, Option, option_map}
 use Rattle.std.specs.List.{flat_map}
 use Rattle.std.specs.FinMap.{find}
@@ -23,10 +23,11 @@ user_line row = line (escaped row.name)
 abbrev pub file_line : FoundFile → List ℕ
 file_line file = line (path_shown file)
 
--- a byte as two hex digits
+-- a number below 16 as a hex digit
 abbrev pub hex_digit : ℕ → ℕ
 hex_digit n = slice_index (codes "0123456789abcdef") n
 
+-- a byte as two hex digits
 abbrev pub hex_digits : ℕ → List ℕ
 hex_digits byte = hex_digit (byte / 16) ∷ hex_digit (byte % 16) ∷ []
 

@@ -1,4 +1,4 @@
--- Requests as they are listed.
+-- Requests as they are listed, and the line that `can` prints of them.
 use Rattle.std.specs.Prelude.{ℕ, Bool, if◌then◌else◌, List, [], ◌∷◌, ◌++◌, map, filter, codes}
 use Rattle.std.specs.List.{flat_map}
 use Rattle.acl_entry.specs.Perms.{Perms, numbered, text}

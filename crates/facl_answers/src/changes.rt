@@ -128,7 +128,7 @@ fn push_part<J: Judge>(
 }
 
 /// Writes what `changes` prints, if users may do the same in both states outside a part of the tree, what is at or
-/// below `tops`: a walk over both states' files for each of these.
+/// below `tops`: a walk over both states' files for each of these, or one over all if a user has another place.
 pub fn write_changes_within<J: Judge>(
     alloc: Global,
     loaded: &IndexedState<J>,

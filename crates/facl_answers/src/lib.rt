@@ -1,12 +1,12 @@
-//! What the questions of a script print: texts that are functions of one state, and of `changes` also of the state after
-//! the texts were loaded. `below` and `gains` are in `facl_counts`.
+//! What the questions of a script print: texts that are functions of one state and of what is asked, and of `changes` also
+//! of the state after the texts were loaded. `below` and `gains` are in `facl_counts`.
 //!
 //! `can`, `who`, `may`, `index` and `changes` are answered from the index of who may do what, without a new verdict, and
 //! `why` from the lists alone. The words of a line are not known here: a question is called with the users, paths and
 //! permissions that the words name.
 //!
 //! A call whose only error is `AllocError` or `NoMemory` fails only if memory runs out. A function that returns no `Result`
-//! allocates nothing.
+//! gives its result whatever memory there is.
 #![tactic(auto)]
 
 mod both_classes;

@@ -34,7 +34,7 @@ abbrev pub folder_line : FoundFile → List ℕ → List FoundFile → List ℕ
 folder_line folder user [] = []
 folder_line folder user (file ∷ files) = decimal (1 + length files) ++ (32 ∷ (user ++ (32 ∷ file_line folder)))
 
--- whether a file at a path or below it is a folder: the path itself, and each directory at most so many levels below it
+-- whether a file at a path or below it is a folder: the file of the path itself, and each directory at most `depth` levels below it
 abbrev pub is_folder : (depth : ℕ) → PathOf → FoundFile → Bool
 is_folder depth p file = nat_le (length file.path) (length p + depth) && (is_directory file.node.kind || nat_le (length file.path) (length p))
 

@@ -33,7 +33,7 @@ listed_in V along s l es =
     filter (λ file. is_of_kind l.asked.kind file.node
     && option_map_or (λ row. has (granted V along s row (file.path, file.node)) l.asked.request) (slice_get s.people.users l.user) false) (found_in s.tree.files es)
 
--- files are added to those so far, of which there are at most as many as are listed
+-- files are added to those so far, up to `l.most` in all
 abbrev pub AddsListed : Listing → (old new more : List FoundFile) → Type 0
 AddsListed l old new more = (seen : List FoundFile) → old ≡ take l.most seen → new ≡ take l.most (seen ++ more)
 

@@ -1,4 +1,4 @@
-//! Counts of the files of two states by their classes in both: how many files have the same classes before and after.
+//! Counts of the files of two states by the pairs of their classes in both.
 
 ghost use Rattle.std.specs.Prelude.{IfOk};
 ghost use Rattle.path_map.specs.Entries.{IsInOrder};

@@ -20,7 +20,8 @@ use facl_answers::Sides;
 use std::alloc::{AllocError, Global};
 
 /// Adds files of a class to the counts. Classes have numbers in the order in which their files come first, so the
-/// count of a class is expected at its number.
+/// count of a class is expected at its number. It is there if all files are counted; if those of one kind alone are, the
+/// class may get several counts, up to one for each of its files.
 fn count<'a>(tallies: &mut Tallies<'a>, files: ClassFiles<'a>) -> Result<(), AllocError>
     ensures { OnOk result ((others : List (Tallied Sides)) → SaysAs tallies.old others
         → SaysAs tallies.new (others ++ of_class (class_tally files.entry) ∷ [])) }

@@ -24,7 +24,7 @@ pub struct Folders {
     pub asked: Asked,
     /// The place of the one user, if not all are in question.
     pub user: Option<usize>,
-    /// How many levels below a path folders are.
+    /// How many levels below a path folders are at most.
     pub depth: usize,
 }
 
@@ -182,10 +182,10 @@ fn push_folders<J: Judge>(
     Ok(())
 }
 
-/// Writes what `below --depth` prints: for each of some paths, for it and each directory at most so many levels below
-/// it, and for each user in the order of the rows, or one user, a line of the number of files at or below it on which
-/// the user is granted a request, all files or those of one kind, the user's name and the folder; none where there are
-/// no such files.
+/// Writes what `below --depth` prints: for each of some paths, for it and each directory at most `which.depth` levels
+/// below it, and for each user in the order of the rows, or one user, a line of the number of files at or below it on
+/// which the user is granted a request, all files or those of one kind, the user's name and the folder; none if there
+/// are no such files.
 ///
 /// # Errors
 ///

@@ -153,7 +153,7 @@ fn push_change(
     push_line(text, granted, count, &gains.user.name, &path)
 }
 
-/// Adds a user's lines of the changes with this side before. No file has one if no count has the side.
+/// Adds a user's lines of the changes with this side before: none if no count has this side.
 fn push_after(
     text: &mut Vec<u8>,
     trees: (&Tree, &Tree),
@@ -258,7 +258,7 @@ fn gains_of_users<'x, J: Judge>(
 }
 
 /// Writes what `gains` prints, if users may do the same in both states outside a part of the tree, what is at or
-/// below `tops`: a walk over both states' files for each of these.
+/// below `tops`: a walk over both states' files for each of these, or one over all if a user has another place.
 pub fn write_gains_within<'x, J: Judge>(
     alloc: Global,
     loaded: &'x IndexedState<J>,

@@ -1,4 +1,4 @@
-//! Counts of files by keys: for each key how many files have it, and which is the first of them.
+//! Counts of files by keys: a key, how many files are counted for it, and which is the first of them.
 
 ghost use Rattle.std.specs.Prelude.{◌≡◌, ◌+◌, ◌++◌, ◌∷◌, [], List, true, IfOk, map};
 ghost use Rattle.facl_counts.specs.Counting.{tallied, HasKey};
@@ -10,7 +10,7 @@ use facl_answers::{Sides, same_place};
 use std::alloc::{AllocError, Global};
 use std::marker::Model;
 
-/// How many files have a key, and the first of them.
+/// A count of a key: how many files are counted for it here, and the first of them.
 #[derive(Drop)]
 pub(crate) struct Tally<'a> {
     pub key: Sides,
@@ -28,7 +28,7 @@ pub(crate) fn together(count: u64, more: u64) -> Result<u64, AllocError>
     }
 }
 
-/// Counts of files by keys.
+/// Counts of files by keys. A key may have several: together they count its files, and the first one has the first file.
 #[derive(Drop)]
 pub(crate) struct Tallies<'a> {
     list: Vec<Tally<'a>>,
@@ -78,8 +78,8 @@ impl<'a> Tallies<'a> {
         self.list.len()
     }
 
-    /// Adds `count` files to the count of a key; `first` is the first of them. The key is expected at `at`, else it
-    /// is searched for or added. Returns the place.
+    /// Adds `count` files to the count of a key; `first` is the first of them. The count is expected at `at`; if it is not
+    /// there, one more is added, also if the key has one elsewhere. Returns the place.
     pub fn add(
         &mut self,
         at: usize,

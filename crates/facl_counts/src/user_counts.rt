@@ -10,7 +10,7 @@ use acl_entry::{Perm, Requests};
 use std::alloc::{AllocError, Global};
 use std::marker::Model;
 
-/// From this many files on a count is added to the wide numbers. A narrow number holds four times as many.
+/// From this many files on a count is added to the wide numbers. A narrow number holds nearly four times as many.
 const MIN_WIDE: u64 = 64;
 
 /// Returns `more`, if a file's verdict grants the request, else 0.

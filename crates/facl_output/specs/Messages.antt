@@ -24,7 +24,7 @@ line_text (Both at) = codes "entry " ++ decimal at ++ codes ": both removed and 
 line_text (Tree fault) = tree_text fault
 line_text NoMemory = codes "no memory"
 
--- who reports a fault: the tool, once its own words are read, and before that the program
+-- who reports a fault: the tool, from the reading of its own words on; before that, and where memory ran out, the program
 abbrev pub reporter : List ℕ → LineFault → List ℕ
 reporter tool LineTooLong = codes "facl"
 reporter tool NotUtf8 = codes "facl"

@@ -81,7 +81,7 @@ pub enum RunFault {
     /// The script has more bytes than `SCRIPT_LIMIT`.
     #[error("script too long")]
     ScriptTooLong,
-    /// Memory ran out in the setup, or for the line that is being read.
+    /// Memory ran out before the script was read, or for the line that is being read.
     #[error("no memory")]
     NoMemory,
 }

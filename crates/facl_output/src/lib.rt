@@ -2,7 +2,7 @@
 //! attributes; why a script's line or a whole run is refused, and the exact bytes of its message.
 //!
 //! A call whose only error is `AllocError` or `NoMemory` fails only if memory runs out. A function that returns no `Result`
-//! allocates nothing.
+//! gives its result whatever memory there is.
 #![tactic(auto)]
 
 mod attr_listing;

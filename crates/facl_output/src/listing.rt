@@ -270,9 +270,9 @@ fn push_listing<N: Names>(
     }
 }
 
-/// Adds what getfacl(1) prints of these files, in their order: for each its header lines, its access entries, its
-/// default entries with `default:` in front, and an empty line. The path of a directory ends in `/` if nothing else
-/// shows that it is one. If memory runs out, nothing is added.
+/// Adds what getfacl(1) prints of these files, in their order: for each that is listed its header lines, its access
+/// entries, its default entries with `default:` in front, and an empty line, but for what `options` leave out. The path
+/// of a directory ends in `/` if nothing else shows that it is one. If memory runs out, nothing is added.
 pub fn append_listing<N: Names>(
     text: &mut Vec<u8>,
     names: &N,

@@ -18,8 +18,8 @@ use acl_tree::TreeFault;
 use itoa::Buffer;
 use std::alloc::AllocError;
 
-/// Returns who reports a fault: the tool, once the line has words and a text; before that, and if memory runs out,
-/// the program.
+/// Returns who reports a fault: the tool, from the reading of its own words on; before that, and if memory ran out, the
+/// program.
 fn reporter<'a>(tool: &'a [u8], fault: &LineFault) -> &'a [u8]
     ensures { result.now ≡ reporter tool.now fault.now }
 {

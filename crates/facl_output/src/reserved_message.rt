@@ -1,4 +1,4 @@
-//! The message of a line for which memory ran out, made without an allocation.
+//! The message of a line for which memory ran out, made in room that was reserved for it.
 
 ghost use Rattle.std.specs.Prelude.{◌≡◌, [], IfOk};
 ghost use Rattle.facl_output.specs.Messages.{message};
@@ -38,7 +38,7 @@ impl ReservedMessage {
         })
     }
 
-    /// Replaces the message by the one that memory ran out for the line with this number, without an allocation.
+    /// Replaces the message by the one that memory ran out for the line with this number, whatever memory there is.
     pub fn put_no_memory(&mut self, number: u64)
         ensures { self.new ≡ message number [] NoMemory }
     {

@@ -71,7 +71,7 @@ fn write_unread<E: Sink>(file: &str, err: &mut E) -> Result<(), ScriptFault>
     write_whole(err, b": cannot read\n")
 }
 
-/// Writes the line of a fault. It allocates nothing, but for a fault of the setup: if memory runs out for its line,
+/// Writes the line of a fault, whatever memory there is, but for a fault of the setup: if memory runs out for its line,
 /// that of `no memory` is written.
 pub(crate) fn write_fault<E: Sink>(
     alloc: Global,

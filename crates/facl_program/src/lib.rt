@@ -1,7 +1,7 @@
 //! The program facl for any judge: reads its words and its texts, then answers the script on standard input.
 //!
 //! It ends with 0 if every line was accepted and with 1 if some line was refused. At the first fault of its own, or
-//! of the run, it prints one line to standard error and ends with 2.
+//! of the run, it prints one line to standard error, unless that has failed, and ends with 2.
 //!
 //! A call whose only error is `AllocError` or `NoMemory` fails only if memory runs out.
 #![tactic(auto)]

@@ -14,11 +14,11 @@ place name names = position_or_len (λ n. bytes_eq n name) names
 abbrev pub has : Syntax → Words → Text → Bool
 has syntax w name = slice_index_or w.flags (place name (map (λ s. s.id) syntax.flags)) false
 
--- the value of the option
+-- the value of the option: its fallback where it is absent, if it has one
 abbrev pub value : Syntax → Words → Text → Option Text
 value syntax w name = slice_index_or w.values (place name (map (λ s. s.id) syntax.options)) None
 
--- the option was given
+-- the option has a value: it was given, or has a fallback
 abbrev pub gives : Syntax → Words → Text → Bool
 gives syntax w name = is_some (value syntax w name)
 

@@ -1,4 +1,4 @@
-//! A line's `clap` command, built for each line, and what it finds in the words.
+//! The `clap` command of a syntax, built for each line and for the program's words, and what it finds in the words.
 ghost use Rattle.std.specs.Prelude.{◌≡◌, false, true, IfOk, MatchResult, Some, map, option_map, string_bytes};
 ghost use Rattle.clap.specs.Words.{app_of, first_of, found_of, rows_of, rule_of};
 ghost use Rattle.facl_script.specs.Rows.{syntax_view, operand_view, option_view};

@@ -45,7 +45,7 @@ pub trait Session {
     /// What the last unit writes to the messages.
     ghost to_err: { Self → List ℕ };
 
-    /// Tells whether a line asks for a text. It is decided without an allocation.
+    /// Tells whether a line asks for a text, whatever memory there is.
     fn asks_for_text(line: &HeldLine<'_>) -> bool
         ensures { (content : Option (List ℕ)) → IsLineHeld line.now content → result ≡ line_takes asks content };
 

@@ -27,7 +27,7 @@ fn is_flag_on(matches: &ArgMatches<'_>, id: &str) -> bool
     }
 }
 
-/// Returns the value of an option, if `clap` found it.
+/// Returns the value of an option: what `clap` found, or else its fallback; `None` if it has none.
 fn option_value(
     alloc: Global,
     row: &OptionRow,

@@ -81,7 +81,7 @@ impl Flags {
     }
 }
 
-/// The values of the options, in the order of the syntax; `None` for an absent option.
+/// The values of the options, in the order of the syntax; `None` for an absent option without a fallback.
 #[derive(Drop)]
 pub struct Values {
     items: Vec<Option<Word>>,
@@ -103,7 +103,7 @@ impl Values {
         Values { items }
     }
 
-    /// Returns the value of the option at a place. `None` if it is absent, or the syntax has no option there.
+    /// Returns the value of the option at a place. `None` if it has none, or the syntax has no option there.
     pub fn get(&self, place: usize) -> Option<WordRef<'_>>
         ensures { result ≡ slice_index_or self.now place None }
     {
@@ -176,21 +176,21 @@ pub struct Words {
 }
 
 impl Words {
-    /// Tells whether the flag of this name was given, in a line of this syntax.
+    /// Tells whether the flag of this name was given, in a line of `syntax`.
     pub fn has(&self, syntax: &Syntax, name: &str) -> bool
         ensures { result ≡ has (syntax_view syntax.now) self.now name.now }
     {
         self.flags.get(option_place(syntax.flags, name))
     }
 
-    /// Returns the value of the option of this name. `None` if it is absent.
+    /// Returns the value of the option of this name: its fallback if it is absent; `None` if it has none.
     pub fn value(&self, syntax: &Syntax, name: &str) -> Option<WordRef<'_>>
         ensures { result ≡ value (syntax_view syntax.now) self.now name.now }
     {
         self.values.get(option_place(syntax.options, name))
     }
 
-    /// Tells whether the option of this name was given.
+    /// Tells whether the option of this name has a value: it was given, or has a fallback.
     pub fn gives(&self, syntax: &Syntax, name: &str) -> bool
         ensures { result ≡ gives (syntax_view syntax.now) self.now name.now }
     {

@@ -22,7 +22,7 @@ fn asked_for(rt: &(impl Abort + AllocGlobal), setup: &Setup<'_>, script: &[u8]) 
     played.asked
 }
 
-/// Plays the first lines of a script, one more at a time, after a setup that asks for so many verdicts.
+/// Plays the first lines of a script, one more at a time, after a setup that asks for `asked` verdicts.
 pub fn check(rt: &(impl Abort + AllocGlobal), setup: &Setup<'_>, asked: u64, costs: &[Cost]) {
     let mut script = Vec::new(rt.alloc());
     let mut before = asked_for(rt, setup, &script);

@@ -23,7 +23,7 @@ fn failing_after(alloc: Global, taken: usize, takes_nothing: bool) -> Recovering
     }
 }
 
-/// What is said of a device that fails after so many bytes is so.
+/// Asserts what is said of a device that fails after `place` bytes.
 fn expect_at(rt: &impl Abort, place: usize, is_so: bool) {
     assert!(rt; is_so, "at {place}");
 }
@@ -130,8 +130,9 @@ fn err_fails_after_each_byte(rt: HostRuntime) {
 /// Lists, an edit whose entries are a text, and a line that is refused. The last line has no line feed.
 const SCRIPT: &[u8] = b"chacl -l f\nsetfacl -M - f\nu:joe:r\n.\nchacl -l f\nfrob\nchacl -l log";
 
-/// How many bytes are printed, and how many of messages, by the units whose last line feed is among the first so many
-/// bytes of the script: the first line has 11, those up to the dot 36, those up to the refused one 52.
+/// How many bytes are printed, and how many of messages, by the units whose last line feed is among the first `given`
+/// bytes of the script: the first line has 11, those up to the dot 36, those up to the next listing 47, and those up to the
+/// refused one 52.
 fn written(given: usize) -> (usize, usize) {
     match given {
         0..11 => (0, 0),

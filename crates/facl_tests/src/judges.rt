@@ -34,7 +34,7 @@ pub struct OwnerAlone {
 }
 
 impl OwnerAlone {
-    /// No verdict was asked for yet.
+    /// Returns a judge that has decided no verdict yet.
     pub fn new() -> OwnerAlone
         ensures { result.asked ≡ 0 }
     {
@@ -82,7 +82,7 @@ pub struct OwnerAtOnce {
 }
 
 impl OwnerAtOnce {
-    /// No verdict was asked for yet.
+    /// Returns a judge that has decided no verdict yet.
     pub fn new() -> OwnerAtOnce
         ensures { result.asked ≡ 0 }
     {
@@ -138,7 +138,7 @@ pub struct WholeClass {
 }
 
 impl WholeClass {
-    /// No verdict was asked for yet.
+    /// Returns a judge that has decided no verdict yet.
     pub fn new() -> WholeClass
         ensures { result.asked ≡ 0 }
     {
@@ -185,7 +185,7 @@ pub struct Watching {
 }
 
 impl Watching {
-    /// No verdict was asked for yet.
+    /// Returns a judge that has decided no verdict yet.
     pub fn new() -> Watching
         ensures { result.asked ≡ 0 }
     {

@@ -1,7 +1,6 @@
-//! Runs over devices that fail, runs under judges, the words of each tool's lines, which lines ask
-//! for a text, and the public calls. Expected bytes are
-//! written out by hand from the rules of docs/SPECIFICATION.md, and words from the manual pages and `clap`. Scripts that need
-//! none of these are in commands/tests/rows.
+//! Runs over devices that fail, runs under judges, the words of each tool's lines, which lines ask for a text, and the
+//! public calls. Expected bytes are written out by hand from the rules of docs/SPECIFICATION.md, and words from the manual
+//! pages and `clap`. Scripts that need none of these are in commands/tests/rows.
 //!
 //! Scripts under a judge: how many verdicts each line asks for, and what lines answer where the verdicts are not those
 //! of acl(5)'s check.

@@ -238,7 +238,7 @@ static REACH_LINES: [(&str, &str); 57] = [
     ("why --reach --reach joe f", "usage"),
     ("why --reach=1 joe f", "usage"),
     ("why -r joe f", "usage"),
-    // No other tool has it.
+    // These tools do not have it.
     ("index --reach", "usage"),
     ("getfacl --reach f", "usage"),
     ("chacl -l --reach f", "usage"),

@@ -48,7 +48,7 @@ static LINES: [(&str, &str); 94] = [
         "--mask -d -R --test -m=a : f",
     ),
     ("setfacl -m a -- -R", "-m=a : -R"),
-    // Nothing asked for.
+    // Neither entries nor lists are changed.
     ("setfacl f", "usage"),
     ("setfacl -n f", "usage"),
     ("setfacl --mask f", "usage"),

@@ -6,7 +6,7 @@ use crate::texts::WHOLE;
 use facl::{Judge, Status, StdFeed, StdSink, run_judged};
 use std::alloc::Global;
 
-/// How many verdicts were asked for: all, those about joe, those on files of ann.
+/// How many verdicts a judge gave: all, those about joe, those on files of ann.
 type Asked = (u64, u64, u64);
 
 /// What a script asks for, its setup included.

@@ -22,11 +22,11 @@ IsOperand syntax name = list_any (λ operand. bytes_eq operand.id name) syntax.o
 abbrev pub has : (syntax : Syntax) → Words → (name : Text) → IsFlag syntax name → Bool
 has syntax w name is_known = words.has syntax w name
 
--- the value of the option
+-- the value of the option: its fallback where it is absent, if it has one
 abbrev pub value : (syntax : Syntax) → Words → (name : Text) → IsOption syntax name → Option Text
 value syntax w name is_known = words.value syntax w name
 
--- the option was given
+-- the option has a value: it was given, or has a fallback
 abbrev pub gives : (syntax : Syntax) → Words → (name : Text) → IsOption syntax name → Bool
 gives syntax w name is_known = words.gives syntax w name
 

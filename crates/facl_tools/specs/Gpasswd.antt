@@ -17,7 +17,7 @@ use Rattle.acl_text.specs.Results.{◌>>=◌}
 abbrev pub syntax : Syntax
 syntax = record { flags = []; options = by_letter (codes "a") ∷ by_letter (codes "d") ∷ []; operands = one (codes "group") ∷ [] }
 
--- the line of a user who is added, or of one who is removed: one of the two is given
+-- the line of a user who is added, or of one who is removed: exactly one of the two is given
 abbrev pub line_of : Option Text → Option Text → Text → Option GpasswdLine
 line_of (Some user) None group = Some (record { change = Add; user = user; group = group })
 line_of None (Some user) group = Some (record { change = Remove; user = user; group = group })

@@ -16,7 +16,7 @@ use facl_output::{LineFault, Source, write_chacl_listing};
 use facl_script::{LineFiles, OperandRow, OptionRow, Syntax, Word, WordRef, Words};
 use std::alloc::Global;
 
-/// The words of the tool: lists, if the flags require them, and then files.
+/// The words of the tool: lists, unless a flag does without them, and then files.
 pub const SYNTAX: Syntax = Syntax {
     flags: &[
         by_letter!('b', "b"),
@@ -138,7 +138,7 @@ fn task_of<'a>(words: &Words, operands: &'a [Word]) -> Option<(Task<'a>, LineFil
     }
 }
 
-/// Reads the line of words. `None` if they are usage: two tasks, or too few words.
+/// Reads the line of words. `None` if they are usage: two tasks, too few words, or a FILE that is `-`.
 pub fn read(words: &Words) -> Option<ChaclLine<'_>>
     ensures { result ≡ read words.now }
 {

@@ -25,7 +25,7 @@ pub const SYNTAX: Syntax = Syntax {
 pub struct ChmodLine<'a> {
     /// `-R`: with all below.
     pub recursive: bool,
-    /// One to four octal digits.
+    /// The number of one to four octal digits.
     pub mode: u16,
     pub files: LineFiles<'a>,
 }

@@ -1,5 +1,5 @@
 //! What tools print of the lists of files is read by tools as these lists: laws of the definitions, each proved as the
-//! contract of a function that does nothing.
+//! contract of a function that only looks.
 
 ghost use Rattle.std.specs.List.{AllByRecursion};
 ghost use Rattle.facl_tools.specs.RoundTrips.{AreReadBySetattr, IsReadByChacl, IsReadBySet};

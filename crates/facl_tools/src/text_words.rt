@@ -1,5 +1,5 @@
-//! The words that name a text: which lines of a script ask for the lines after them, which is decided without memory; and
-//! whether the words of a line fit the text that it has.
+//! The words that name a text: which lines of a script ask for the lines after them, whatever memory there is; and whether
+//! the words of a line fit the text that it has.
 ghost use Rattle.std.specs.Prelude.{◌≡◌, ◌≤◌, ℕ, false, true, List, [], ◌∷◌, ◌++◌, MatchResult, Option, Some, count_by, map, string_bytes, take};
 ghost use Rattle.std.specs.List.{list_all};
 ghost use Rattle.std.specs.Option.{option_map_or};
@@ -17,7 +17,7 @@ use facl_script::{
 };
 use std::alloc::Global;
 
-/// Whether a word of a tool line names standard input as a file of entries or as a dump, as setfacl(1) spells it:
+/// Tells whether a word of a tool line names standard input as a file of entries or as a dump, as setfacl(1) spells it:
 /// `-`, `-M-`, `-X-`, `--modify-file=-`, `--remove-file=-`, `--set-file=-` or `--restore=-`.
 pub fn is_text_word(word: &[u8]) -> bool
     ensures { result ≡ is_text_spelling word.now }
@@ -31,7 +31,7 @@ pub fn is_text_word(word: &[u8]) -> bool
         || word == b"--restore=-".as_slice()
 }
 
-/// Whether one word asks for a text: the first where it is `load`, a later one where it names standard input.
+/// Tells whether one word asks for a text: the first if it is `load`, a later one if it names standard input.
 fn asks(is_first: bool, word: &[u8]) -> bool
     ensures { result ≡ word_asks is_first word.now }
 {
@@ -56,7 +56,7 @@ struct Beginning {
 impl Beginning {
     ghost use Rattle.facl_tools.specs.Beginning.{first_bytes};
 
-    /// No bytes.
+    /// Returns no bytes.
     fn new() -> Beginning
         ensures { first_bytes result ≡ [] }
     {
@@ -66,7 +66,7 @@ impl Beginning {
         }
     }
 
-    /// Adds a byte of the word, where there is room.
+    /// Adds a byte of the word, if there is room.
     fn push(&mut self, byte: u8)
         ensures { first_bytes self.new ≡ take BEGINNING (first_bytes self.old ++ byte ∷ []) }
     {
@@ -76,7 +76,7 @@ impl Beginning {
         }
     }
 
-    /// The bytes.
+    /// Returns the bytes.
     fn as_slice(&self) -> &[u8]
         ensures { result.now ≡ first_bytes self.now }
     {
@@ -84,8 +84,8 @@ impl Beginning {
     }
 }
 
-/// Whether one of the words of a line asks for a text: the first where it is `load`, a later one where it names standard
-/// input, once quotes are taken off. None does where a quote is open.
+/// Tells whether one of the words of a line asks for a text: the first if it is `load`, a later one if it names standard
+/// input, once quotes are taken off. None does if a quote is open.
 fn words_ask(line: &[u8]) -> bool
     ensures { result ≡ option_map_or words_ask (words_of line.now) false }
 {
@@ -112,7 +112,7 @@ fn words_ask(line: &[u8]) -> bool
     }
 }
 
-/// Whether a line asks for the lines after it, up to a line `.`, as its text: its first word is `load`, or a later one
+/// Tells whether a line asks for the lines after it, up to a line `.`, as its text: its first word is `load`, or a later one
 /// names standard input, once quotes are taken off. No line does that is blank, a comment, or has an open quote.
 pub fn asks_for_text(line: &HeldLine<'_>) -> bool
     ensures { (content : Option (List ℕ)) → IsLineHeld line.now content → result ≡ line_takes line_asks content }
@@ -123,7 +123,7 @@ pub fn asks_for_text(line: &HeldLine<'_>) -> bool
     }
 }
 
-/// How many of the options that read a text were given.
+/// Counts the options that read a text and were given.
 fn texts_given(syntax: &Syntax, found: &Words) -> usize
     ensures { result ≡ texts_given (syntax_view syntax.now) found.now }
 {
@@ -134,7 +134,7 @@ fn texts_given(syntax: &Syntax, found: &Words) -> usize
         .count()
 }
 
-/// Whether an option reads no text, is absent, or names standard input.
+/// Tells whether an option reads no text, is absent, or names standard input.
 fn is_named(syntax: &Syntax, found: &Words, option: &OptionRow) -> bool
     ensures { result ≡ is_named (syntax_view syntax.now) found.now (option_view option.now) }
 {
@@ -147,7 +147,7 @@ fn is_named(syntax: &Syntax, found: &Words, option: &OptionRow) -> bool
     }
 }
 
-/// Whether each option that reads a text is absent or names standard input.
+/// Tells whether each option that reads a text is absent or names standard input.
 fn are_named(syntax: &Syntax, found: &Words) -> bool
     ensures { result ≡ list_all (λ option. is_named (syntax_view syntax.now) found.now (option_view option))
         syntax.now.options.now }
@@ -158,7 +158,7 @@ fn are_named(syntax: &Syntax, found: &Words) -> bool
         .all(|option| is_named(syntax, found, option))
 }
 
-/// How many words name standard input as a text.
+/// Counts the words that name standard input as a text.
 fn texts_named(words: &[String]) -> usize
     ensures { result ≡ count_by is_text_spelling (map string_bytes words.now) }
 {
@@ -168,8 +168,8 @@ fn texts_named(words: &[String]) -> usize
         .count()
 }
 
-/// Whether each option that reads a text names standard input, and the words that do so are as many as these options:
-/// at most one.
+/// Tells whether each option that reads a text and was given names standard input, and the words that do so are as many
+/// as these options: at most one.
 #[tactic(auto, using(crate::proofs::TextWordLemmas::all_by_rows))]
 fn fits_text(syntax: &Syntax, words: &[String], found: &Words) -> bool
     ensures { result ≡ fits_text (syntax_view syntax.now) (map string_bytes words.now) found.now }
@@ -178,11 +178,11 @@ fn fits_text(syntax: &Syntax, words: &[String], found: &Words) -> bool
     are_named(syntax, found) && texts_named(words) == given && given <= 1
 }
 
-/// The words of a line by the syntax of its tool: flags, options and operands.
+/// Reads the words of a line by the syntax of its tool: flags, options and operands.
 ///
-/// Returns `Usage` where `clap` refuses the words by the syntax, and where those that name the lines after the line as
-/// its text are not as many as the options that read one, at most one. Returns `NoMemory` only if memory runs out, and
-/// then in place of any answer.
+/// Returns `Usage` if `clap` refuses the words by the syntax, if an option that reads a text names a file, and if the
+/// words that name the lines after the line as its text are not as many as the options that read one, at most one.
+/// Returns `NoMemory` only if memory runs out, and then in place of any answer.
 #[tactic(auto, unfolding(crate::specs::TextWords::words_by))]
 pub fn read_by(alloc: Global, syntax: &Syntax, words: &[String]) -> Result<Words, WordsFault>
     requires { is_covered (syntax_view syntax.now) ≡ true }

@@ -76,7 +76,7 @@ fn changes_as_in_a_table(rt: HostRuntime) {
     }
 }
 
-/// The pairs of so many first numbers and second ones that are even.
+/// The pairs of the first numbers below `firsts` and the first `seconds` even numbers.
 fn even_pairs(rt: &impl Abort, alloc: Global, firsts: usize, seconds: usize) -> Vec<Pair> {
     let mut pairs = Vec::new(alloc);
     for first in 0..firsts {
