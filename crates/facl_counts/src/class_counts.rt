@@ -18,10 +18,10 @@ use acl_rights::{ClassFiles, FileClasses};
 use acl_tree::FilesIter;
 use facl_answers::Sides;
 use std::alloc::{AllocError, Global};
+use std::collections::BTreeMap;
 
-/// Adds files of a class to the counts. Classes have numbers in the order in which their files come first, so the
-/// count of a class is expected at its number. It is there if all files are counted; if those of one kind alone are, the
-/// class may get several counts, up to one for each of its files.
+/// Adds files of a class to the counts. Classes have numbers in the order in which their files come first, so if all files
+/// are counted, the count of a class is at its number.
 fn count<'a>(tallies: &mut Tallies<'a>, files: ClassFiles<'a>) -> Result<(), AllocError>
     ensures { OnOk result ((others : List (Tallied Sides)) → SaysAs tallies.old others
         → SaysAs tallies.new (others ++ of_class (class_tally files.entry) ∷ [])) }
@@ -86,9 +86,10 @@ fn takes_kind(files: &mut FilesIter<'_>, kind: Kind) -> bool
     }
 }
 
-/// Adds files of a class to the counts, if they count.
+/// Adds files of a class to the counts, if they count. `places` has the place of the count of each class.
 fn count_if<'a>(
     tallies: &mut Tallies<'a>,
+    places: &mut BTreeMap<usize, usize>,
     are_counted: bool,
     files: ClassFiles<'a>,
 ) -> Result<(), AllocError>
@@ -96,10 +97,14 @@ fn count_if<'a>(
         → SaysAs tallies.new (others ++ (if are_counted then of_class (class_tally files.entry) ∷ [] else []))) }
 {
     if are_counted {
-        count(tallies, files)
-    } else {
-        Ok(())
+        let expected = places.get(&files.class).copied().unwrap_or(usize::MAX);
+        let key = (None, Some(files.class));
+        let place = tallies.add(expected, key, files.count as u64, files.first)?;
+        if place != expected {
+            let _before = places.insert(files.class, place)?;
+        }
     }
+    Ok(())
 }
 
 /// Counts those of the next files by their classes that are of a kind, as long as they are at or below a path. `files`
@@ -113,6 +118,7 @@ pub(crate) fn count_kind<'a>(
 ) -> Result<Tallies<'a>, AllocError>
     ensures { IfOk result (λ tallies. AreCounted classes.new.0 (rows_with kind files.old (front top.now classes.old.1)) tallies) }
 {
+    let mut places = BTreeMap::new(alloc);
     let mut tallies = Tallies::new(alloc);
     while let Some((first, class)) = next_within(alloc, classes, top)? {
         let is_of_it = takes_kind(files, kind);
@@ -121,7 +127,7 @@ pub(crate) fn count_kind<'a>(
             count: 1,
             first,
         };
-        count_if(&mut tallies, is_of_it, file)?;
+        count_if(&mut tallies, &mut places, is_of_it, file)?;
     }
     Ok(tallies)
 }

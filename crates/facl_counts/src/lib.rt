@@ -1,8 +1,8 @@
 //! What `below` and `gains` print: for each user on how many files a request is granted or changes, and the first of
 //! them; the first files of one user; and counts folder by folder.
 //!
-//! The files are counted once for all users, by classes of files that have the same row of the index (with a kind a class
-//! may get several counts), without a new verdict.
+//! The files are counted once for all users, by classes of files that have the same row of the index, without a new
+//! verdict.
 //!
 //! A call whose only error is `AllocError` fails only if memory runs out, or if a count would be too large. A
 //! function that returns no `Result` gives its result whatever memory there is.
