@@ -6,7 +6,8 @@ No contract can forbid a call to report that memory ran out where it did not, so
 that is not one of tests. Types, `use` and patterns may name what follows; of expressions:
 
 - `AllocError` and `AllocFailed` are in none, so these values come from allocations alone; but where a `checked_add` or
-  `checked_mul` has no value, or a `u32::try_from` no number, a count that does not fit is one too. No state within the limits has one.
+  `checked_mul` has no value, or a `u32::try_from` no number, a count that does not fit is one too. No state within the limits has
+  one: what is added or multiplied by is one digit, a variable or a call, and no sum or constant, which would be a limit.
 - `NoMemory`, of any fault, is made only in an `impl From` of one of these, or out of another `NoMemory`, or out of the
   kind `OutOfMemory` of std and of the kit's crates: in an arm of a match each of whose patterns names one, or in the
   block of an `if` whose condition ends with a comparison with one. Comparisons alone may name it anywhere.
@@ -44,7 +45,7 @@ ALLOCATIONS, FAULT = ("AllocError", "AllocFailed"), "NoMemory"
 NAMES = (*ALLOCATIONS, FAULT)
 # What a pattern names where memory ran out: a fault, or the kind of an error of others.
 RAN_OUT = {FAULT, "OutOfMemory"}
-SUM = re.compile(r"(?:\. checked_(?:add|mul)|u32 :: try_from) \( (?:[^()]|\( [^()]* \))* \)(?: \))?$")
+SUM = re.compile(r"(?:\. checked_(?:add|mul)|u32 :: try_from) \( (?:\d|[a-z_]\w*(?: \. \w+)*(?: \( [^()+-]* \))?) \)(?: \))?$")
 ANY = "|".join(NAMES)
 RENAMED = re.compile(rf"\b({ANY})\s+as\s+(?!(?:{ANY})\b)"
                      rf"|^[^/\n]*\btype\s+(?!(?:{ANY})\b)\w+\s*=\s*(?:\w+::)*({ANY})\b", re.M)

@@ -496,7 +496,10 @@ BODIES = {
         "match g() { Ok(n) => Ok(n), Err(_) => Err(AllocError) }", "match f { X::NoMemory => Err(AllocError), _ => 1 }",
         "let Some(x) = g() else { return Err(AllocError) };", "let Some(x) = a.checked_sub(1) else { return Err(AllocError) };",
         "match a.checked_add(b) { Some(n) => Err(AllocError), None => g() }",
-        "let Some(x) = a.checked_add(1) else { return 1 }; Err(AllocError)"),
+        "let Some(x) = a.checked_add(1) else { return 1 }; Err(AllocError)",
+        "let Some(x) = a.checked_add(usize::MAX - 9) else { return Err(AllocError) };",
+        "let Some(x) = a.checked_add(MOST) else { return Err(AllocError) };",
+        "match a.checked_mul(b + 9) { Some(n) => Ok(n), None => Err(AllocError) }"),
     "AllocFailed": ("Err(AllocFailed { value: x })",),
     "NoMemory": (
         "Err(X::NoMemory)", "g().map_err(|_| LineFault::NoMemory)", "match f { X::Other => X::NoMemory, x => x }",
