@@ -1,4 +1,8 @@
 //! Files by classes: the row of each file's class, how many classes there are, and how many files have each.
+
+ghost use Rattle.acl_entry.specs.Check.{rights};
+ghost use Rattle.acl_rights.specs.Tables.{IsWhole};
+
 use crate::lines::Line;
 use crate::rows::{Wanted, bytes, is_next};
 use crate::texts::{GROUP, PASSWD};
@@ -191,55 +195,57 @@ const TOPS: &[u8] = b"# file: x\n# owner: lisa\n# group: staff\nuser::rw-\ngroup
 const TWO: &[u8] = b"# file: e/1\nuser::rw-\ngroup::r--\nother::---\n\n\
 # file: e/2\nuser::rw-\ngroup::r--\nother::---\n";
 
-/// A row, and how many classes files have after it: alone, along paths, and along paths where those of one row stay apart.
+/// A table of one row, and how many classes files have after it: alone, along paths, and along paths where those of one row stay
+/// apart.
 type Shared = ([Row; 1], [usize; 3]);
 
-/// Of the ten classes along paths those are one that have a label, and leave it to the same users: five directories but the root,
-/// three files of each label. Below `b` there is another one. Then files get the label of others, in `d` and in `a`.
-static OF_FOLDERS: [Shared; 3] = [
-    (
-        [Row {
-            line: Line::Load(Table::Dump, SHARED),
-            asked: (0, 15),
-            refreshed: 42,
-            ..FREE
-        }],
-        [5, 7, 10],
-    ),
-    (
-        [Row {
-            line: Line::Chmod(0o640, b"d/g"),
-            ..FREE
-        }],
-        [5, 7, 9],
-    ),
-    (
-        [Row {
-            line: Line::Restore(TWO),
-            ..FREE
-        }],
-        [4, 6, 8],
-    ),
-];
+/// Of the ten classes along paths those are one that have a label, and leave it to the same users: four directories but the
+/// root, the files of one label, and those of the other one. In `b` there is another one.
+static LOADED: Shared = (
+    [Row {
+        line: Line::Load(Table::Dump, SHARED),
+        asked: (0, 15),
+        refreshed: 42,
+        ..FREE
+    }],
+    [5, 7, 10],
+);
 
-static OF_TOPS: [Shared; 2] = [
-    (
-        [Row {
-            line: Line::Load(Table::Dump, TOPS),
-            asked: (0, 6),
-            refreshed: 6,
-            ..FREE
-        }],
-        [2, 2, 2],
-    ),
-    (
-        [Row {
-            line: Line::Chmod(0o640, b"x"),
-            ..FREE
-        }],
-        [1, 1, 1],
-    ),
-];
+/// A file gets the label of the one beside it, and its class.
+static ONE_BESIDE: Shared = (
+    [Row {
+        line: Line::Chmod(0o640, b"d/g"),
+        ..FREE
+    }],
+    [5, 7, 9],
+);
+
+/// Two files get the class of those in `a` and `c`.
+static TWO_BESIDE: Shared = (
+    [Row {
+        line: Line::Restore(TWO),
+        ..FREE
+    }],
+    [4, 6, 8],
+);
+
+static TOPS_LOADED: Shared = (
+    [Row {
+        line: Line::Load(Table::Dump, TOPS),
+        asked: (0, 6),
+        refreshed: 6,
+        ..FREE
+    }],
+    [2, 2, 2],
+);
+
+static TOPS_ALIKE: Shared = (
+    [Row {
+        line: Line::Chmod(0o640, b"x"),
+        ..FREE
+    }],
+    [1, 1, 1],
+);
 
 /// How many classes the files have.
 fn count_of(alloc: Global, classes: FileClasses<'_>) -> Option<usize> {
@@ -267,18 +273,38 @@ fn expect_counts(rt: &impl Abort, alloc: Global, world: &World, counts: &[usize;
     expect_count(rt, alloc, classes, apart);
 }
 
-/// Plays rows after the users and groups were loaded, and counts the classes after each.
-fn expect_shared(rt: &impl Abort, alloc: Global, rows: &[Shared]) {
+/// Users and groups, and no file.
+fn people(rt: &impl Abort, alloc: Global) -> World
+    ensures { IsWhole rights result.state result.index }
+{
     let mut world = nothing(alloc).expect(rt, "memory");
     assert_eq!(rt; first_wrong(alloc, &mut world, &PEOPLE), None);
-    for (row, counts) in rows {
-        assert_eq!(rt; first_wrong(alloc, &mut world, row), None);
-        expect_counts(rt, alloc, &world, counts);
-    }
+    world
+}
+
+/// Plays a row, and counts the classes after it.
+fn expect_shared(rt: &impl Abort, alloc: Global, world: &mut World, shared: &Shared)
+    requires { IsWhole rights world.old.state world.old.index }
+    ensures { IsWhole rights world.new.state world.new.index }
+{
+    let (row, counts) = shared;
+    assert_eq!(rt; first_wrong(alloc, world, row), None);
+    expect_counts(rt, alloc, world, counts);
 }
 
 #[test]
-fn files_share_classes(rt: HostRuntime) {
-    expect_shared(&rt, rt.alloc(), &OF_FOLDERS);
-    expect_shared(&rt, rt.alloc(), &OF_TOPS);
+fn files_share_classes_in_folders(rt: HostRuntime) {
+    let mut world = people(&rt, rt.alloc());
+    expect_shared(&rt, rt.alloc(), &mut world, &LOADED);
+    expect_shared(&rt, rt.alloc(), &mut world, &ONE_BESIDE);
+    expect_shared(&rt, rt.alloc(), &mut world, &TWO_BESIDE);
+    drop(world);
+}
+
+#[test]
+fn files_share_classes_below_nothing(rt: HostRuntime) {
+    let mut world = people(&rt, rt.alloc());
+    expect_shared(&rt, rt.alloc(), &mut world, &TOPS_LOADED);
+    expect_shared(&rt, rt.alloc(), &mut world, &TOPS_ALIKE);
+    drop(world);
 }

@@ -114,17 +114,17 @@ const CLOSED: &[u8] = b"\nuser::rw-\ngroup::---\nother::---\n\n";
 
 const OPENED: &[u8] = b"\nuser::rw-\ngroup::---\nother::r--\n\n";
 
-/// The states of 80 files that are closed.
-fn eighty(rt: &impl Abort, alloc: Global, judge: &mut Posix) -> IndexedStates<Posix>
-    requires { judge.old.asked ≡ 0 }
-{
+/// The states of 80 files that are closed, and their judge.
+fn eighty(rt: &impl Abort, alloc: Global) -> (IndexedStates<Posix>, Posix) {
     let text = records(rt, alloc, 0, 80, CLOSED);
     let mut state = State::new(alloc).expect(rt, "memory");
     put(rt, alloc, &mut state, Table::Dump, &text);
-    IndexedStates::new(alloc, judge, state).expect(rt, "memory")
+    let mut judge = Posix::new();
+    let states = IndexedStates::new(alloc, &mut judge, state);
+    (states.expect(rt, "memory"), judge)
 }
 
-/// Opens files by one line, and tells how many parts of the tree differ then; none where the line is refused.
+/// Opens 40 files by one line, and tells how many parts of the tree differ then; none where memory runs out.
 fn parts_opened(
     rt: &impl Abort,
     alloc: Global,
@@ -138,16 +138,17 @@ fn parts_opened(
     let text = records(rt, alloc, start, start.saturating_add(40), OPENED);
     let now = states.state().state();
     let command = restore(alloc, now.people(), &text)?;
-    let staged = prepared_by(alloc, now, command)?;
-    states.replace_if(alloc, judge, Some(staged), false).ok()?;
-    Some(states.changed().len())
+    let staged = prepared_by(alloc, now, command);
+    match states.replace_if(alloc, judge, staged, false) {
+        Ok(()) => Some(states.changed().len()),
+        Err(_) => None,
+    }
 }
 
 /// Files that are not below one another are one part once they are more than 64.
 #[test]
 fn parts_of_the_tree_are_few(rt: HostRuntime) {
-    let mut judge = Posix::new();
-    let mut states = eighty(&rt, rt.alloc(), &mut judge);
+    let (mut states, mut judge) = eighty(&rt, rt.alloc());
     let some = parts_opened(&rt, rt.alloc(), &mut judge, &mut states, 0);
     let all = parts_opened(&rt, rt.alloc(), &mut judge, &mut states, 40);
     drop(states);
