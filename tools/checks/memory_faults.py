@@ -6,11 +6,13 @@ No contract can forbid a call to report that memory ran out where it did not, so
 that is not one of tests. Types, `use` and patterns may name what follows; of expressions:
 
 - `AllocError` and `AllocFailed` are in none, so these values come from allocations alone; but where a `checked_add` or
-  `checked_mul` has no value, or a `u32::try_from` no number, a count that does not fit is one too. No state within the limits has one.
+  `checked_mul` has no value, or a `u32::try_from` no number, a count that does not fit is one too. No state within the limits has
+  one: what is added or multiplied by is one digit, a variable or a call, and no sum or constant, which would be a limit.
 - `NoMemory`, of any fault, is made only in an `impl From` of one of these, or out of another `NoMemory`, or out of the
   kind `OutOfMemory` of std and of the kit's crates: in an arm of a match each of whose patterns names one, or in the
   block of an `if` whose condition ends with a comparison with one. Comparisons alone may name it anywhere.
 - None of the three has another name, by `use .. as ..` or by `type` (`NoMemory` as a name of `AllocError` apart).
+- `with_capacity` has no product: room for one may be refused where that for what is put there would not be.
 
 EXCEPTIONS has the other places: the one arm of a function, with its reason. One where nothing is found any more is a
 fault too.
@@ -44,7 +46,8 @@ ALLOCATIONS, FAULT = ("AllocError", "AllocFailed"), "NoMemory"
 NAMES = (*ALLOCATIONS, FAULT)
 # What a pattern names where memory ran out: a fault, or the kind of an error of others.
 RAN_OUT = {FAULT, "OutOfMemory"}
-SUM = re.compile(r"(?:\. checked_(?:add|mul)|u32 :: try_from) \( (?:[^()]|\( [^()]* \))* \)(?: \))?$")
+SUM = re.compile(r"(?:\. checked_(?:add|mul)|u32 :: try_from) \( (?:\d|[a-z_]\w*(?: \. \w+)*(?: \( [^()+-]* \))?) \)(?: \))?$")
+PRODUCTS = {"checked_mul", "saturating_mul", "wrapping_mul", "checked_pow", "saturating_pow", "wrapping_pow", "pow"}
 ANY = "|".join(NAMES)
 RENAMED = re.compile(rf"\b({ANY})\s+as\s+(?!(?:{ANY})\b)"
                      rf"|^[^/\n]*\btype\s+(?!(?:{ANY})\b)\w+\s*=\s*(?:\w+::)*({ANY})\b", re.M)
@@ -325,6 +328,16 @@ class Body:
                 yield from () if token.text == FAULT and may_be else ((token.line, token.text, self.arms.get(at, "")),)
 
 
+def products(tokens: List[Token]) -> Iterator[int]:
+    """The lines where a function makes room for a product."""
+    for at, token in enumerate(tokens):
+        if token.text == "with_capacity" and tokens[at + 1].text == "(":
+            texts = [each.text for each in tokens[at + 2:end_of_group(tokens, at + 1)]]
+            is_product = any(after == "*" and re.match(r"[\w)\]]", before) for before, after in zip(texts, texts[1:]))
+            if is_product or PRODUCTS & set(texts):
+                yield token.line
+
+
 class Made(NamedTuple):
     """What is made or named where it may not be: the line, the function and the arm as EXCEPTIONS has them, the text."""
 
@@ -343,6 +356,7 @@ def in_functions(source: Source) -> Iterator[Made]:
         for line, name, arm in Body(function.body).made():
             if name != FAULT or not is_of_allocation:
                 yield Made(line, place, arm, f"{name} is made in {place}")
+        yield from (Made(line, place, "", f"room for a product is made in {place}") for line in products(function.body))
 
 
 def in_items(source: Source) -> Iterator[Made]:

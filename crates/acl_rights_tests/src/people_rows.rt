@@ -221,3 +221,45 @@ pub static COMES_BACK: [Row; 4] = [
         ..FREE
     },
 ];
+
+/// F gets the label of the root after a user came, which is not asked for.
+pub static KNOWN_AFTER_A_NEW_USER: [Row; 2] = [
+    Row {
+        line: Line::Useradd(b"bob", 1003, b"staff"),
+        asked: (0, 5),
+        refreshed: 5,
+        ..FREE
+    },
+    Row {
+        line: Line::Chmod(0o755, b"f"),
+        refreshed: 4,
+        ..FREE
+    },
+];
+
+pub static KNOWN_AFTER_A_USER_WENT: [Row; 2] = [
+    Row {
+        line: Line::Userdel(b"joe"),
+        ..FREE
+    },
+    Row {
+        line: Line::Chmod(0o755, b"f"),
+        refreshed: 2,
+        ..FREE
+    },
+];
+
+pub static KNOWN_AFTER_A_USER_JOINED: [Row; 2] = [
+    Row {
+        line: Line::Join(b"joe", b"adm"),
+        asked: (2, 2),
+        looked: 2,
+        refreshed: 2,
+        ..FREE
+    },
+    Row {
+        line: Line::Chmod(0o755, b"f"),
+        refreshed: 3,
+        ..FREE
+    },
+];

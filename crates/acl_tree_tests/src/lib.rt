@@ -12,6 +12,8 @@ mod edits;
 #[cfg(test)]
 mod files;
 #[cfg(test)]
+mod kinds;
+#[cfg(test)]
 mod loads;
 #[cfg(test)]
 mod people;

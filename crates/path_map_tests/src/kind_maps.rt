@@ -93,6 +93,14 @@ fn put_two(
     puts.finish(alloc).expect(rt, "memory")
 }
 
+/// The map where the nodes of a and b are that of c, so that no path has the numbers 0 and 1.
+pub(crate) fn two_freed(rt: &impl Abort, alloc: Global) -> KindMap<u32> {
+    let first = path(rt, alloc, b"a");
+    let second = path(rt, alloc, b"b");
+    let map = built(rt, alloc, [5, 6, 7]);
+    put_two(rt, alloc, &map, &first, &second, [7, 7])
+}
+
 /// A path has this node, by this number.
 pub(crate) fn expect_entry(
     rt: &impl Abort,
@@ -139,6 +147,27 @@ pub(crate) fn expect_given_again(rt: &impl Abort, alloc: Global, map: &KindMap<u
     expect_entry(rt, alloc, &new, b"b", 5, 0);
     expect_entry(rt, alloc, &new, b"d", 8, 1);
     assert!(rt; new.numbers_len() == 2);
+}
+
+/// A map of four numbers, of which two are free, gives both to nodes that are put, in this order.
+pub(crate) fn expect_both_given_again(
+    rt: &impl Abort,
+    alloc: Global,
+    map: &KindMap<u32>,
+    numbers: [usize; 2],
+) {
+    let first = path(rt, alloc, b"d");
+    let second = path(rt, alloc, b"e");
+    let new = put_two(rt, alloc, map, &first, &second, [1, 2]);
+    expect_entry(rt, alloc, &new, b"d", 1, numbers[0]);
+    expect_entry(rt, alloc, &new, b"e", 2, numbers[1]);
+    assert!(rt; new.numbers_len() == 4);
+}
+
+#[test]
+fn both_numbers_that_are_free_are_given_again(rt: HostRuntime) {
+    let map = two_freed(&rt, rt.alloc());
+    expect_both_given_again(&rt, rt.alloc(), &map, [1, 0]);
 }
 
 #[test]

@@ -3,7 +3,9 @@
 
 ghost use Rattle.std.specs.Prelude.{false};
 
-use crate::kind_maps::{b_freed, built, expect_entry, expect_given_again};
+use crate::kind_maps::{
+    b_freed, built, expect_both_given_again, expect_entry, expect_given_again, two_freed,
+};
 use kinds::{KindMap, Renewal};
 use std::alloc::{AllocError, Global};
 use std::process::Abort;
@@ -76,6 +78,20 @@ fn a_number_that_is_free_is_free_in_a_map_with_other_nodes(rt: HostRuntime) {
     let new = with_its_nodes(&rt, rt.alloc(), &b_freed(&rt, rt.alloc()));
     assert!(rt; new.used(1).is_none());
     expect_given_again(&rt, rt.alloc(), &new);
+}
+
+#[test]
+fn both_numbers_that_are_free_are_free_in_a_map_with_other_nodes(rt: HostRuntime) {
+    let new = with_its_nodes(&rt, rt.alloc(), &two_freed(&rt, rt.alloc()));
+    expect_both_given_again(&rt, rt.alloc(), &new, [1, 0]);
+}
+
+// The lowest one is given first.
+#[test]
+fn both_numbers_that_are_free_are_free_in_a_renewed_map(rt: HostRuntime) {
+    let (new, renewed) = with_nines(&rt, rt.alloc(), &two_freed(&rt, rt.alloc()));
+    assert!(rt; renewed == 2);
+    expect_both_given_again(&rt, rt.alloc(), &new, [0, 1]);
 }
 
 #[test]

@@ -29,3 +29,40 @@ fn a_number_that_is_given_back_is_given_again(rt: HostRuntime) {
     expect_node(&rt, &kinds, 1, 6);
     expect_node(&rt, &kinds, 2, 8);
 }
+
+/// Three nodes, of which two are given back, the last one of both first or not; their numbers are given again, the last one first.
+fn expect_given_again(rt: &impl Abort, alloc: Global, back: [usize; 2]) {
+    let kinds = added(rt, alloc, Kinds::new(alloc), 5, 0);
+    let kinds = added(rt, alloc, kinds, 6, 1);
+    let kinds = added(rt, alloc, kinds, 7, 2);
+    let kinds = kinds.release(back[0], 1).expect(rt, "memory");
+    let kinds = kinds.release(back[1], 1).expect(rt, "memory");
+    let kinds = kinds.share().expect(rt, "memory");
+    let kinds = added(rt, alloc, kinds, 8, back[1]);
+    let kinds = added(rt, alloc, kinds, 9, back[0]);
+    let kinds = added(rt, alloc, kinds, 10, 3);
+    expect_node(rt, &kinds, 1, 6);
+}
+
+#[test]
+fn two_numbers_that_are_given_back_are_given_again(rt: HostRuntime) {
+    expect_given_again(&rt, rt.alloc(), [0, 2]);
+    expect_given_again(&rt, rt.alloc(), [2, 0]);
+}
+
+/// A node that replaces another one, whose number it gets.
+fn replaced(rt: &impl Abort, alloc: Global, kinds: Kinds<u32>, number: usize) -> Kinds<u32> {
+    let node = Rc::new(alloc, 11).expect(rt, "memory");
+    assert!(rt; kinds.get(number).is_some());
+    kinds.with_node(number, node).expect(rt, "memory")
+}
+
+#[test]
+fn numbers_that_are_free_stay_so_where_a_node_is_replaced(rt: HostRuntime) {
+    let kinds = added(&rt, rt.alloc(), Kinds::new(rt.alloc()), 5, 0);
+    let kinds = added(&rt, rt.alloc(), kinds, 6, 1);
+    let kinds = kinds.release(0, 1).expect(&rt, "memory");
+    let kinds = replaced(&rt, rt.alloc(), kinds, 1);
+    let kinds = added(&rt, rt.alloc(), kinds, 7, 0);
+    expect_node(&rt, &kinds, 1, 11);
+}

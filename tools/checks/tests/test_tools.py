@@ -490,13 +490,19 @@ BODIES = {
         "match a.checked_mul(b.count(*n)) { Some(n) => Ok(n), None => Err(AllocError) }",
         "let Ok(x) = u32::try_from(n) else { return Err(AllocError); };",
         "let (Ok(x), Ok(y)) = (u32::try_from(n), u32::try_from(m)) else { return Err(AllocError); };",
-        "match e.kind() { K::OutOfMemory => X::NoMemory, _ => X::Usage }"),
+        "match e.kind() { K::OutOfMemory => X::NoMemory, _ => X::Usage }",
+        "let v = Vec::with_capacity(alloc, *a + b.len())?;", "let v = Vec::with_capacity(alloc, a.len().saturating_add(1))?;"),
+    "room for a product": (
+        "let v = Vec::with_capacity(alloc, a.len() * 2)?;", "let v = Vec::with_capacity(alloc, a.len().saturating_mul(n))?;"),
     "AllocError": (
         "return Err(AllocError);", "let f: fn(u8) -> Result<u8, X> = g; Err(AllocError)",
         "match g() { Ok(n) => Ok(n), Err(_) => Err(AllocError) }", "match f { X::NoMemory => Err(AllocError), _ => 1 }",
         "let Some(x) = g() else { return Err(AllocError) };", "let Some(x) = a.checked_sub(1) else { return Err(AllocError) };",
         "match a.checked_add(b) { Some(n) => Err(AllocError), None => g() }",
-        "let Some(x) = a.checked_add(1) else { return 1 }; Err(AllocError)"),
+        "let Some(x) = a.checked_add(1) else { return 1 }; Err(AllocError)",
+        "let Some(x) = a.checked_add(usize::MAX - 9) else { return Err(AllocError) };",
+        "let Some(x) = a.checked_add(MOST) else { return Err(AllocError) };",
+        "match a.checked_mul(b + 9) { Some(n) => Ok(n), None => Err(AllocError) }"),
     "AllocFailed": ("Err(AllocFailed { value: x })",),
     "NoMemory": (
         "Err(X::NoMemory)", "g().map_err(|_| LineFault::NoMemory)", "match f { X::Other => X::NoMemory, x => x }",
