@@ -189,7 +189,8 @@ const SHARED: &[u8] =
 # file: e/2\n# owner: lisa\n# group: staff\nuser::rw-\ngroup::---\nother::---\n";
 
 /// No directory is above the two files.
-const TOPS: &[u8] = b"# file: x\n# owner: lisa\n# group: staff\nuser::rw-\ngroup::---\nother::---\n\n\
+const TOPS: &[u8] =
+    b"# file: x\n# owner: lisa\n# group: staff\nuser::rw-\ngroup::---\nother::---\n\n\
 # file: y\n# owner: lisa\n# group: staff\nuser::rw-\ngroup::r--\nother::---\n";
 
 const TWO: &[u8] = b"# file: e/1\nuser::rw-\ngroup::r--\nother::---\n\n\

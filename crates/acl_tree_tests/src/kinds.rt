@@ -6,7 +6,8 @@ use std::alloc::Global;
 use std::process::Abort;
 
 /// Directories that are alike, and files of two kinds by turns.
-const BY_TURNS: &[u8] = b"# file: .\n# owner: lisa\n# group: staff\nuser::rwx\ngroup::r-x\nother::r-x\n\n\
+const BY_TURNS: &[u8] =
+    b"# file: .\n# owner: lisa\n# group: staff\nuser::rwx\ngroup::r-x\nother::r-x\n\n\
 # file: x/\n# owner: lisa\n# group: staff\nuser::rwx\ngroup::r-x\nother::r-x\n\n\
 # file: x/a\n# owner: lisa\n# group: staff\nuser::rw-\ngroup::r--\nother::---\n\n\
 # file: x/b\n# owner: lisa\n# group: staff\nuser::rw-\ngroup::---\nother::---\n\n\
