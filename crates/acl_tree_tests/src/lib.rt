@@ -12,7 +12,7 @@ mod edits;
 #[cfg(test)]
 mod files;
 #[cfg(test)]
-mod kinds;
+mod kinds_of_files;
 #[cfg(test)]
 mod loads;
 #[cfg(test)]
