@@ -17,9 +17,9 @@ usage: tools/check.py documents [--write | --files [CRATE].. | --index [CRATE]..
   the sources have them; --write makes them so, and does nothing else.
 - Each file of src/ and specs/ of a crate, and each script of commands/, debian/ and tools/, has a sentence at its head; --files
   prints these sentences, of some crates or of all and the scripts, and does nothing else.
-- --index prints of some crates of the program, or of all, the public calls whose `ensures` have names, with these; the laws, the
-  functions that have a theorem as their contract; and the wrong bodies of each folder, each with the function that it
-  changes; and does nothing else.
+- --index prints, of some crates of the program or of all, the public calls whose `ensures` have names, with these; the laws,
+  which are functions that have a theorem as their contract; and the wrong bodies of each folder, each with the function that
+  it changes. It does nothing else.
 - All documents: each link within the repository, each path that starts with a folder of it or of a crate, and each
   `tools/check.py NAME` leads to something; each name with `_` or `::` is a word of the sources, or of the tests of the commands.
 
