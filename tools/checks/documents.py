@@ -1,6 +1,6 @@
 """Checks what the documents say of the sources.
 
-usage: tools/check.py documents [--write | --files [CRATE]..]
+usage: tools/check.py documents [--write | --files [CRATE].. | --index [CRATE]..]
 
 - docs/PROOFS.md: the functions, types and clauses that these name are in the sources (Checks.name_faults): the column
   "Carried by", tables that start with "Calls", lists of its section LEFT, and what is in parentheses of the points, the
@@ -13,10 +13,13 @@ usage: tools/check.py documents [--write | --files [CRATE]..]
   first two and the README have no others. The words that name a text are those of the options that read one (tool_rows.py).
 - docs/READING.md: each line of its examples is one of the sources or definitions.
 - tools/README.md names each script of tools/, a check as `check.py NAME`, and none that is not there.
-- The blocks `<!-- graph -->` of docs/ARCHITECTURE.md, `<!-- index -->` of docs/PROOFS.md and `<!-- chain -->` of
-  docs/READING.md, which chain.py counts, are as the sources have them; --write makes them so, and does nothing else.
+- The blocks `<!-- graph -->` of docs/ARCHITECTURE.md and `<!-- chain -->` of docs/READING.md, which chain.py counts, are as
+  the sources have them; --write makes them so, and does nothing else.
 - Each file of src/ and specs/ of a crate, and each script of commands/, debian/ and tools/, has a sentence at its head; --files
   prints these sentences, of some crates or of all and the scripts, and does nothing else.
+- --index prints, of some crates of the program or of all, the public calls whose `ensures` have names, with these; the laws,
+  which are functions that have a theorem as their contract; and the wrong bodies of each folder, each with the function that
+  it changes. It does nothing else.
 - All documents: each link within the repository, each path that starts with a folder of it or of a crate, and each
   `tools/check.py NAME` leads to something; each name with `_` or `::` is a word of the sources, or of the tests of the commands.
 
@@ -48,11 +51,11 @@ NAME = re.compile(r"(?:[A-Za-z]\w*::)*[A-Za-z]\w*")
 PLACEHOLDER = re.compile(r"X_\w+|\w+_")
 IN_PARENTHESES = re.compile(r"\(((?:[^()]|\([^()]*\))*)\)")
 PIECE = re.compile(r"`([^`]*)`|(\w+|[();])")
-BLOCK = re.compile(r"^<!-- (graph|index|chain) -->\n(.*?)^<!-- end -->$", re.M | re.S)
+BLOCK = re.compile(r"^<!-- (graph|chain) -->\n(.*?)^<!-- end -->$", re.M | re.S)
 LAW = re.compile(r"^ */// Proof only.*\n(?: *(?:///|#\[).*\n)* *(?:pub )?fn ", re.M)
 SOURCES = ("crates/*/src/**/*.rt", "crates/*/specs/*.antt")
 # The documents with a block that is made of the sources.
-BLOCKS = {ARCHITECTURE: "graph", PROOFS: "index", READING: "chain"}
+BLOCKS = {ARCHITECTURE: "graph", READING: "chain"}
 # What one may read, by words of chain.py.
 READ = {
     "headline": "all clauses of `run`",
@@ -271,7 +274,7 @@ class Checks:
 
     def written(self, text: str) -> str:
         """A document with all of its blocks made of the sources."""
-        made = {"graph": self.graph, "index": self.index, "chain": self.amounts}
+        made = {"graph": self.graph, "chain": self.amounts}
 
         def block(match: "re.Match[str]") -> str:
             return f"<!-- {match[1]} -->\n" + "".join(line + "\n" for line in made[match[1]]()) + "<!-- end -->"
@@ -293,9 +296,9 @@ class Checks:
             yield from (f"    {crate} --> {used}" for used in sorted(uses - implied))
         yield "```"
 
-    def index(self) -> Iterator[str]:
-        """The crates of the program, each with the calls whose clauses have names, the laws, the edits of each folder."""
-        for crate in self.program:
+    def index(self, crates: List[str]) -> Iterator[str]:
+        """Crates of the program, or all, each with the calls whose clauses have names, the laws, the edits of each folder."""
+        for crate in (crate for crate in self.program if crate in (crates or self.program)):
             shown: Dict[str, List[str]] = {}
             for function in (function for function, is_law in self.exported(crate) if not is_law):
                 clauses = ", ".join(f"`{clause}`" for clause in self.library.clauses(function, ("ensures",)))
@@ -376,6 +379,8 @@ def main() -> int:
     lines: List[str] = []
     if sys.argv[1:2] == ["--files"] and set(sys.argv[2:]) <= set(checks.listed):
         print("".join(f"{path}: {head}\n" for path, head in checks.heads(sys.argv[2:])), end="")
+    elif sys.argv[1:2] == ["--index"] and set(sys.argv[2:]) <= set(checks.program):
+        print("".join(line + "\n" for line in checks.index(sys.argv[2:])), end="")
     elif sys.argv[1:] == ["--write"]:
         for path in BLOCKS:
             Path(TOP, path).write_text(checks.written(checks.texts[path]), encoding="utf-8")

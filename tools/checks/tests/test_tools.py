@@ -172,7 +172,7 @@ INDEX = """- **low**
   - Laws: `maps_are_maps`
   - Wrong bodies: `grows_by_one` (`Map::grow`), `one_too_many` (`a.rt`)
 """
-PROOFS = f"""# Proofs
+PROOFS = """# Proofs
 ## The points
 1. It holds (`low::Map::put`, as in acl(5); `Judge::ask` (`look_up`)); this too (`Map::put`, clauses `ok`, `err`).
 2. So does the next.
@@ -188,9 +188,6 @@ Trusted is `clap`.
 |---|---|---|
 | low `Map::put`; `ask` | a map | `ok`; `row` |
 - low `Map::get`, `put`, all of `Judge`.
-## Index
-<!-- index -->
-{INDEX}<!-- end -->
 """
 ARCHITECTURE = """# Crates
 <!-- graph -->
@@ -309,9 +306,7 @@ FAULTS: Dict[str, List[Tuple[str, ...]]] = {
         ("Carried by", "Where", "1: there is no table, list or point of: Carried by"),
         ("`ok`; `row`", "`ok`", "15: Map::ask has none of the clauses named; it has asked, row"),
         ("`put`, all", "`gone`, all", "16: no `gone` in low"),
-        ("is `clap`", "is `hex`", "6: no line that starts with Trusted has the kit's crates, clap"),
-        ("`Map::grow`", "`Map::get`", f"1: the block index {MADE}"),
-        ("<!-- index", "<!-- no index", f"1: the block index {MADE}")],
+        ("is `clap`", "is `hex`", "6: no line that starts with Trusted has the kit's crates, clap")],
     "docs/ARCHITECTURE.md": [
         ("facl --> facl_script", "facl --> low", f"1: the block graph {MADE}"),
         ("below 4,096", "4,097", "17: MOST of low is 4096", "12: 4095 is no limit of docs/ARCHITECTURE.md"),
@@ -322,7 +317,8 @@ FAULTS: Dict[str, List[Tuple[str, ...]]] = {
         (r"[\-Rv]", r"[\-Rw]", "1: chmod does not read -w", "1: chmod has no -v here"),
         ("SS can", "SS may", "1: the program has no tool may", "1: the tool can is not in it"),
         (r"\-\-dump", r"\-\-dumps", "1: facl does not read --dumps", "1: facl has no --dump here")],
-    "docs/READING.md": [("4_096", "4_097", "5: is in no source"), ("| 2 |", "| 3 |", f"1: the block chain {MADE}")],
+    "docs/READING.md": [("4_096", "4_097", "5: is in no source"), ("| 2 |", "| 3 |", f"1: the block chain {MADE}"),
+                        ("<!-- chain", "<!-- no chain", f"1: the block chain {MADE}")],
     "crates/low/specs/Maps.antt": [
         ("{ℕ}", "{ℤ}", "1: crates/low/specs/Maps.antt:5: nothing declares, imports or binds `ℕ`")],
     "CONTRIBUTING.md": [
@@ -369,7 +365,9 @@ class Documents(Case):
 
     def test_parts_that_are_made(self) -> None:
         checks = Checks(self.top)
-        self.assertEqual(checks.written(PROOFS.replace(INDEX, "old\n")), PROOFS)
+        self.assertEqual(checks.written(READING.replace("| 2 |", "| 3 |")), READING)
+        self.assertEqual("".join(line + "\n" for line in checks.index([])), INDEX)
+        self.assertEqual((list(checks.index(["low"])), list(checks.index(["facl"]))), (INDEX.splitlines(), []))
         heads = [head for _, head in checks.heads(["low"])]
         self.assertEqual(heads, ["What a map is.", "Maps, by `a|b`.", "Closed.", "Cut."])
         self.assertEqual(dict(checks.heads([]))["tools/lib/a.py"], "Checks all.")
