@@ -4,7 +4,7 @@ what it says is next to bash and dash, as if it were pasted.
 usage: tools/check.py hostile [--PART N].. [--seed N] [--folder DIR] [--record] PROGRAM      PROGRAM: facl_linux
 
 As root, over a tree in a folder of its own, where users and groups with such names own files and are in their lists; they are
-in files of its own, so no account is made. Each name (tools/lib/hostile_names.py) is a try. A verb has to end with a status of
+in files of its own, so no account is made. A try is about one name (tools/lib/hostile_names.py). A verb has to end with a status of
 its page and without a traceback; what a person reads has no character that a terminal obeys or that cannot be seen, but for
 colours; JSON and rows have the name as it is, with its escapes; a plan changes this very file, and the undo of it gives its old
 list back; and no name is run. --help prints the parts.
@@ -30,6 +30,7 @@ from lib.live_tree import Check, Done, expect, make, must, remove, run, run_part
 from facl_commands.base.names import UNSEEN, json_name, write_user  # After lib, which adds its folder.
 
 FIRST = 80000  # The id of the first user and the first group.
+STRIDE = 37  # Between the names of two tries: few tries have names of each kind, and a hundred all of them.
 COLOUR = re.compile(rb"\x1b\[[0-9;]*m")
 PROGRESS = re.compile(rb"\r\x1b\[K")
 SENDMAIL = b'#!/bin/sh\ncat >>"$0.mails"\n'
@@ -75,7 +76,7 @@ class Hostile(Check):
     """A tree with a file and a folder of each name, owned and named by users and groups of such names."""
 
     tools = ["getfacl", "setfacl", *SHELLS]
-    parts = {"pipes": len(OF_FILES), "terminals": len(OF_FILES), "plans": len(OF_FILES), "by_hand": len(OF_USERS), "pasted": len(OF_FILES), "mails": 1}
+    parts = {"pipes": 12, "terminals": 12, "plans": 30, "by_hand": 20, "pasted": 40, "mails": 1}
 
     def begin(self) -> None:
         if not os.path.exists(self.name("tree")):
@@ -104,7 +105,8 @@ class Hostile(Check):
                 must(run([b"setfacl", b"-m", entries % (number, number), b"--", place]), 0)
 
     def named(self, seed: int) -> Named:
-        name, user = OF_FILES[seed % len(OF_FILES)], OF_USERS[seed % len(OF_FILES) % len(OF_USERS)]
+        at = seed * STRIDE % len(OF_FILES)
+        name, user = OF_FILES[at], OF_USERS[at % len(OF_USERS)]
         folder = self.name(b"tree/" + name)
         return Named(os.path.join(folder, name), folder, user, user)
 
@@ -127,7 +129,7 @@ class Hostile(Check):
         attributes[1] &= ~termios.OPOST
         termios.tcsetattr(other, termios.TCSANOW, attributes)
         pieces: List[bytes] = []
-        reader = threading.Thread(target=read_all, args=(side, pieces))
+        reader = threading.Thread(target=read_all, args=(side, pieces), daemon=True)
         reader.start()
         done = subprocess.run(self.facl_words(*words), stdin=subprocess.DEVNULL, stdout=other, stderr=other, cwd=self.name("here"), check=False,
                               env={**os.environ, **self.variables()})
@@ -214,7 +216,7 @@ class Hostile(Check):
     def check_by_hand(self, seed: int) -> None:
         """What is to be done by hand for a user of the name is run by both shells, where no account of it is on the system: it
         ends, runs no name, and says only what can be seen."""
-        user = OF_USERS[seed % len(OF_USERS)]
+        user = OF_USERS[seed * STRIDE % len(OF_USERS)]
         for shell in SHELLS:
             remove(self.name("one.plan"))
             line = b"gpasswd -d ines " + word(write_user(user))
@@ -228,7 +230,7 @@ class Hostile(Check):
 
     def check_pasted(self, seed: int) -> None:
         """A plan in a folder of the name: the command that is said to be next names this folder, or one that is not there."""
-        name = OF_FILES[seed % len(OF_FILES)]
+        name = OF_FILES[seed * STRIDE % len(OF_FILES)]
         folder = self.name("plans")
         remove(folder)
         plan = os.path.join(make(folder + b"/", 0o700), name)
