@@ -2,7 +2,7 @@
 """Measures the program and the commands, and prints tables in Markdown.
 
 usage: tools/bench.py MEASUREMENT PROGRAM [FOLDER] [--files N,..] [--users N] [--runs N]
-                      [--beside OTHER] [--only RANGE,..] [--clone OTHER]
+                      [--beside OTHER]... [--only RANGE,..] [--clone OTHER]...
        tools/bench.py tree [--files N] [--users N]
 
   tools    each tool on the trees of tools/lib/texts.py (10000,100000,1000000 files, 1000 users, 3 runs)
@@ -23,8 +23,9 @@ usage: tools/bench.py MEASUREMENT PROGRAM [FOLDER] [--files N,..] [--users N] [-
            (tree_bench.rt.txt): it is proved and built in a temporary folder, over copies of the crates below acl_tree
            (100000 files, 1000 users, one run; the median of four hundred `creat`, `rm` and `gpasswd`)
 
-With --beside, tools, index and limits measure another program in turn with the first, on the same lines but those of tools
-that it does not have, and have columns of its figures and of the ratios: how many times as much the first one takes.
+With --beside, which may be given several times, tools, index and limits measure other programs in turn with the first, on the
+same lines but those of tools that one does not have, and have columns of its figures and of the ratios: how many times as much
+the first one takes.
 
 FOLDER is that of temporary files if it is left out; what is made in it is removed. Times are processor time, the best
 of the runs, as the most memory is the least; those of `live` and `snapshot` are the medians of the runs, with the time by the
@@ -61,8 +62,7 @@ BESIDE = ("tools", "index", "limits")  # What measures another program too.
 
 def best_times(given: Words, tree: Tree, steps: Iterable[Step], number_of: Optional[NumberOf] = None) -> List[Figures]:
     """The best of the runs of each program, on a tree whose files have the labels of some numbers, or on that of texts.py."""
-    programs: List[str] = [given.program, given.beside] if given.beside else [given.program]
-    taken = {program: steps_of(program, steps) for program in programs}
+    taken = {program: steps_of(program, steps) for program in [given.program, *given.beside]}
     runs: Dict[str, List[Figures]] = {program: [] for program in taken}
     with tempfile.TemporaryDirectory(prefix="facl-bench.") as folder:
         if number_of:
@@ -76,11 +76,12 @@ def best_times(given: Words, tree: Tree, steps: Iterable[Step], number_of: Optio
 
 
 def columns_of(name: str, found: List[Figures]) -> Dict[str, Mapping[str, Union[str, float]]]:
-    """A column of figures; and where there are those of another program, one of these and one of ratios."""
+    """A column of figures; and for each other program one of its figures and one of ratios."""
     columns: Dict[str, Mapping[str, Union[str, float]]] = {name: found[0]}
-    for other in found[1:]:
-        columns[f"{name}: beside"] = other
-        columns[f"{name}: ratio"] = {row: f"{found[0][row] / other[row]:.2g}" for row in other if other[row] > 0}
+    for place, other in enumerate(found[1:], 1):
+        number = f" {place}" * (len(found) > 2)
+        columns[f"{name}: beside{number}"] = other
+        columns[f"{name}: ratio{number}"] = {row: f"{found[0][row] / other[row]:.2g}" for row in other if other[row] > 0}
     return columns
 
 
@@ -219,7 +220,7 @@ def words() -> Words:
     options.add_argument("--files", type=lambda text: [int(number) for number in text.split(",")])
     options.add_argument("--users", type=int)
     options.add_argument("--runs", type=int)
-    options.add_argument("--beside", type=program_at, metavar="OTHER")
+    options.add_argument("--beside", action="append", type=program_at, default=[], metavar="OTHER")
     options.add_argument("--only", type=lambda text: text.split(","), default=[], metavar="RANGE,..")
     options.add_argument("--clone", action="append", default=[], metavar="OTHER")
     given = options.parse_args()

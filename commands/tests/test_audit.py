@@ -16,6 +16,7 @@ from common import COMMANDS, Done, restore_signals
 from page_data import read_data
 from small_tree import CLEAN, GROUP, PASSWD, SmallTree
 
+from facl_commands.base.programs import LINUX
 from facl_commands.questions.audit import findings
 
 PLAIN = b"# owner: 1001\n# group: 2001\nuser::rw-\ngroup::rw-\nother::---\n"
@@ -183,6 +184,16 @@ class EachFinding(Audits):
         found = [row for row in self.rows() if row[1] == b"entry-without-effect"]
         self.assertEqual([row[4:] for row in found], [[b"group:law:rw-, at or below /srv/hr", b"setfacl -n -x g:law /srv/hr/new"]])
 
+    def test_files_of_one_line_are_asked_at_once(self) -> None:
+        """The program gets one line for different records that the same entry can go out of."""
+        self.take({b"/srv/hr/%d" % owner: with_entries(PLAIN.replace(b"owner: 1001", b"owner: %d" % owner), b"user:1001:rw-")
+                   for owner in (1001, 1002, 1003)})
+        words = os.fsencode(self.path("asked")), os.fsencode(LINUX.find())
+        self.write("program", b"#!/bin/sh\ntee -a '%s' | '%s' \"$@\"\n" % words)
+        os.chmod(self.path("program"), 0o755)
+        self.assertEqual([row[1:3] for row in self.rows("--program", self.path("program"))], [[b"entry-without-effect", b"3"]])
+        lines = [line for line in self.read("asked").splitlines() if b" -x " in line]
+        self.assertEqual(lines, [b"setfacl -n -x u:anna 0 1 2"])
 
     def test_one_record_in_several_directories(self) -> None:
         """Files of one record are found where the directories above let the user or everybody through."""

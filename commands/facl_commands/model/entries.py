@@ -53,8 +53,7 @@ class ReadRecord(NamedTuple):
 
     def permissions(self, *tags: bytes) -> bytes:
         """Those of the entry of the access list that names nobody, of the first of some tags that has one; empty without one."""
-        found = {it.key[0]: it.permissions for it in self.access if not it.is_named()}
-        return next((found[tag] for tag in tags if tag in found), b"")
+        return next((it.permissions for tag in tags for it in self.access if it.key == (tag, b"")), b"")
 
     def group_class(self) -> bytes:
         """The permissions in the second digit of the mode."""
@@ -149,6 +148,8 @@ def without(permissions: bytes, letter: bytes) -> bytes:
 
 def cut_letters(entry: Entry) -> bytes:
     """The permissions of an entry that the mask takes away."""
+    if entry.permissions == entry.effective:
+        return b""
     return b"".join(it for it in LETTERS if it in entry.permissions and it not in entry.effective)
 
 

@@ -60,8 +60,8 @@ def named_entries(record: ReadRecord) -> List[Tuple[Entry, bytes]]:
 
 def mask_cuts_entry(_file: File, record: ReadRecord, ids: NamesOfIds) -> OfFile:
     """Entries of users and groups of which r or w is cut; the edit says what they grant, and grants nobody more."""
-    cut = [(it, begin) for it, begin in named_entries(record) if cut_letters(it).strip(b"x")
-           and (begin or not record.has_open_empty_mask())]  # Of which empty_mask says what the entries do.
+    is_open = record.has_open_empty_mask()  # Then empty_mask says what the entries of the access list do.
+    cut = [(it, begin) for it, begin in named_entries(record) if (begin or not is_open) and cut_letters(it).strip(b"x")]
     if not cut:
         return None
     text = b", ".join(b"default " * (begin != b"") + b"%s: %s is %s" % (

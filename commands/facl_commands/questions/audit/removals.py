@@ -12,7 +12,7 @@ from ...model.entries import Entry, Key, named, read_record
 from ...model.people import People, ids_in, superusers_among, users_by_group
 from ...model.records import Files
 from ...program.protocol import FILE_HEAD
-from ...program.session import LINES_ROOM, parts_of, session_over
+from ...program.session import LINE_ROOM, LINES_ROOM, parts_of, session_over
 from ...program.tools import path_in, user_in
 from .findings import FoundFiles, Mend
 from .lists import Audited
@@ -22,15 +22,23 @@ WHOSE = b"whose it is; the line that takes the id out would grant something to u
 Line = Tuple[bytes, bytes]  # A record, and a line without the file.
 
 
+def for_all(lines: List[Line]) -> Iterator[bytes]:
+    """The lines with their files, whose names are places: files of one line are named in one where it has room, since each line
+    takes the program longer than one more file of it."""
+    files: Dict[bytes, List[bytes]] = {}
+    for place, (_, edit) in enumerate(lines):
+        files.setdefault(edit, []).append(b"%d" % place)
+    return (b" ".join([edit, *part]) + b"\n" for edit, names in files.items() for part in parts_of(names, LINE_ROOM - len(edit)))
+
+
 def changed_by(audited: Audited, lines: List[Line]) -> Iterator[Tuple[int, bytes]]:
     """What lines change in the rights of the snapshot's users, each on a file of its own: its place, and a line of `changes`."""
     if not lines:
         return
     texts = audited.world.texts
     dump = b"".join(FILE_HEAD + b"/%d\n" % place + body + b"\n" for place, (body, _) in enumerate(lines))
-    asked = [b"%s %d\n" % (edit, place) for place, (_, edit) in enumerate(lines)]
     with session_over(audited.program, texts.passwd, texts.group, dump) as session:
-        for part in parts_of(asked, LINES_ROOM):
+        for part in parts_of(for_all(lines), LINES_ROOM):
             messages = session.ask(b"".join(part)).messages
             if messages:
                 raise Failure(b"the program refused a line that mends: " + messages[0])
