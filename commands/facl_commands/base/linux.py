@@ -154,10 +154,11 @@ def rename_to(old: bytes, source: int, new: bytes, target: int) -> None:
     raise FileExistsError(errno.EEXIST, os.strerror(errno.EEXIST), os.fsdecode(new))
 
 
-def rename_new(old: bytes, new: bytes, folder: int) -> None:
-    """Renames within a folder, by its descriptor; fails where there is something of the new name."""
-    if not is_renamed(old, folder, new, folder):
-        rename_to(old, folder, new, folder)
+def rename_new(old: bytes, new: bytes, folder: int, source: int = NO_DESCRIPTOR) -> None:
+    """Renames within a folder, by its descriptor, or to it from another one; fails where there is something of the new name."""
+    source = folder if source == NO_DESCRIPTOR else source
+    if not is_renamed(old, source, new, folder):
+        rename_to(old, source, new, folder)
 
 
 def move(name: bytes, source: int, target: int) -> None:
