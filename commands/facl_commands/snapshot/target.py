@@ -44,7 +44,8 @@ def check_doubt(place: bytes, look: os.stat_result, doubt: Optional[int]) -> Non
         raise Failure(place + b": " + {
             trusted.OF_OTHER: b"belongs to " + trusted.owner_name(look.st_uid) + b", who could write there or exchange it",
             trusted.BY_ALL: b"everybody can write there",
-            trusted.BY_OTHERS: b"others than its owner can write there, by its group or its ACL"}[doubt])
+            trusted.BY_OTHERS: b"others than its owner can write there, by its group or its ACL",
+            trusted.BY_SERVER: b"is on a file system of another user (FUSE)"}[doubt])
 
 
 class SnapshotPlace(NamedTuple):
