@@ -542,7 +542,7 @@ class Names(Case):
 
     def test_words_that_a_terminal_would_obey(self) -> None:
         """Words of a line may be names of files, which a shell has put in the place of a star."""
-        for name, words in (("facl-plan", ["before"]), ("facl-verbs", ["plan", "-s", "before"])):
+        for name, words in (("facl-plan", ["before", "edits"]), ("facl-verbs", ["plan", "-s", "before"])):
             done = self.run_command(name, [*words, "--\033[2J\udcff"])
             self.assertEqual(done.status, 2)
             self.assertTrue(done.messages.endswith(b"unrecognized arguments: --\\033[2J\\377\n"), done.messages)
