@@ -2,6 +2,7 @@
 from __future__ import annotations
 
 import contextlib
+import itertools
 import json
 import os
 import resource
@@ -523,6 +524,19 @@ class SideBySide(Meanwhile):
 
     def all_modes(self) -> Set[int]:
         return {self.mode(name) for name in self.names}
+
+    def test_no_further_process_can_be_started(self) -> None:
+        """Those that are there do all: nothing else would know what was changed so far."""
+        carrier, fork, calls = self.carrier_of_many(), os.fork, itertools.count(1)
+
+        def fork_twice() -> int:
+            if next(calls) > 2:
+                raise BlockingIOError
+            return fork()
+
+        with unittest.mock.patch("os.fork", fork_twice):
+            self.assertEqual(carrier.run(), {})
+        self.assertEqual((self.all_modes(), len(carrier.changed), next(calls)), ({0o604}, 24, 4))
 
     def test_all_are_changed_and_given_back(self) -> None:
         carrier = self.carrier_of_many()

@@ -517,6 +517,20 @@ class Each(Case):
         self.assertEqual(done._replace(out=without_else(done.out)), self.run_command("facl-ask", ["before"], b"index\n"))
         self.assertIn(b"machine\n", self.read("called"))
 
+    def test_words_of_processes_have_no_names_of_files(self) -> None:
+        """All users see the words of a process, and a snapshot is its owner's alone."""
+        os.mkdir(self.path("bin"))
+        self.write("bin/ssh", b"#!/bin/sh\nshift 2\necho \"$*\" >>'%s'\nexec sh -c \"$*\"\n" % os.fsencode(self.path("called")))
+        os.chmod(self.path("bin/ssh"), stat.S_IRWXU)
+        os.symlink(os.path.join(COMMANDS, "facl"), self.path("bin/facl"))
+        environment = {"PATH": self.path("bin") + ":" + os.environ["PATH"]}
+        words = ["--each", "--with-root", "1", "machine:" + self.path("2"), "3"]
+        done = self.run_command("facl-ask", words, b"below r srv\n", environment)
+        wanted = self.run_command("facl-ask", ["before"], b"below r srv\n")
+        self.assertEqual(done._replace(out=without_else(done.out)), wanted)
+        self.assertIn(b"--shared-lines=", self.read("called"))
+        self.assertNotIn(b"srv/share", self.read("called"))
+
     def test_signals_leave_nothing(self) -> None:
         self.write("slow", b"#!/bin/sh\ncd \"$(dirname \"$(readlink \"$6\")\")\" || exit\necho $$ >writing\nmv writing at_work\nexec sleep 100\n")
         os.chmod(self.path("slow"), 0o755)

@@ -540,6 +540,13 @@ class Names(Case):
         self.assertIn(b"by hand: rm -- '/" + seen + b"'\n", done.out)
         self.assertNotIn(b"\033", done.out)
 
+    def test_words_that_a_terminal_would_obey(self) -> None:
+        """Words of a line may be names of files, which a shell has put in the place of a star."""
+        for name, words in (("facl-plan", ["before", "edits"]), ("facl-verbs", ["plan", "-s", "before"])):
+            done = self.run_command(name, [*words, "--\033[2J\udcff"])
+            self.assertEqual(done.status, 2)
+            self.assertTrue(done.messages.endswith(b"unrecognized arguments: --\\033[2J\\377\n"), done.messages)
+
     def test_scripts_get_names_as_they_are(self) -> None:
         done = self.plan_with(b"z\033", b"setfacl -m u:guest:r 'srv/share/z\\033'\n", "--full", "--file-alone")
         self.assertTrue(done.out.startswith(b"guest\tnone\t->\tr--\t/srv/share/z\033\n"), done.out)
@@ -782,6 +789,13 @@ class BadInput(Case):
                              "--plan", "edits", "before", "edits")
         self.expect_unusable(b"before exists and is not a plan alone (it has other files); choose another name with -o",
                              "--plan", "before", "before", "edits")
+
+    def test_files_of_a_person_by_the_names_of_those_of_a_plan(self) -> None:
+        os.mkdir(self.path("mine"))
+        self.write("mine/edits", b"chmod 600 srv/share/one\n")
+        self.expect_unusable(b"mine exists and is not a plan; choose another name with -o", "--plan", "mine", "before", "mine/edits")
+        os.rename(self.path("mine/edits"), self.path("edits"))
+        self.assertEqual(self.run_command("facl-plan", ["--plan", "mine", "before", "edits"]).status, 0)  # An empty folder will do.
 
     def test_a_plan_is_replaced_unless_it_was_applied(self) -> None:
         self.plan(b"chmod 600 srv/share/one\n")

@@ -643,6 +643,12 @@ class Trusted(SnapshotCase):
         self.expect_refused(["new", "tree"], os.path.realpath(self.path("new")).encode() + b"/ came there meanwhile; %s stays as it was"
                             % os.path.realpath(self.path("new")).encode())
 
+    def test_a_folder_that_comes_in_its_place(self) -> None:
+        """It may be somebody's: it is not replaced, empty as it is."""
+        self.meanwhile("mkdir new")
+        self.expect_refused(["new", "tree"], b"cannot put the snapshot in place")
+        self.assertEqual(os.listdir(self.path("new")), [])
+
     def test_files_that_come_too_late_to_be_seen(self) -> None:
         self.expect_status(self.snapshot("new", "tree"), 0)
         self.add_code("""
@@ -742,7 +748,8 @@ class Said(SnapshotCase):
         self.expect_status(self.snapshot("new", "tree"), 0)
         old = os.stat(self.path("new")).st_ino
         self.meanwhile(": >at_work; sleep 0.3")
-        for number in (signal.SIGHUP, signal.SIGINT, signal.SIGQUIT, signal.SIGUSR1, signal.SIGUSR2, signal.SIGALRM, signal.SIGTERM):
+        for number in (signal.SIGHUP, signal.SIGINT, signal.SIGQUIT, signal.SIGUSR1, signal.SIGUSR2, signal.SIGALRM, signal.SIGTERM,
+                       signal.SIGXCPU, signal.SIGVTALRM, signal.SIGPROF, signal.SIGPOLL, signal.SIGPWR):
             self.assertEqual((number, self.end_by(number)), (number, 128 + number))
             self.expect_nothing_left()
         self.assertEqual(os.stat(self.path("new")).st_ino, old)

@@ -3,11 +3,12 @@ from __future__ import annotations
 
 import os
 import unittest
+from unittest import mock
 
 from common import Case
 from real import RealCase
 
-from facl_commands.base import trusted
+from facl_commands.base import linux, trusted
 from facl_commands.base.messages import Failure
 
 as_root = unittest.skipUnless(os.geteuid() == 0, "only for root, who can give files away")
@@ -110,6 +111,21 @@ class Folders(Case):
         done = self.run_command("facl-apply", ["before.plan"])
         self.assertEqual(done.status, 2)
         self.assertIn(b"belongs to user 54321", done.messages)
+
+    def test_a_file_system_of_another_user(self) -> None:
+        """Its owner says whose the files on it are."""
+        self.write("mounts", b"36 35 0:50 / /mnt rw,nosuid - fuse.sshfs a:/b rw,user_id=54321,group_id=7\n"
+                             b"37 35 0:51 / /shared rw - virtiofs shared rw\n")
+        with mock.patch.object(linux, "MOUNTS_FILE", self.path("mounts")), mock.patch.object(linux, "file_system_of", lambda _: linux.FUSE):
+            self.assertEqual([linux.server_of(0, os.makedev(0, minor)) for minor in (50, 51, 52)], [STRANGER, None, None])
+        os.close(trusted.open_folder(self.whole))
+        for server in (STRANGER, None, 0, os.geteuid()):
+            with mock.patch.object(linux, "server_of", lambda *_, server=server: server):
+                if server == STRANGER:
+                    with self.assertRaisesRegex(Failure, "is on a file system of another user"):
+                        trusted.open_folder(self.whole)
+                else:
+                    os.close(trusted.open_folder(self.whole))
 
     @as_root
     def test_a_group_of_others(self) -> None:

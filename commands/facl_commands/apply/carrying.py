@@ -105,15 +105,18 @@ class Carrier:
         """Gives the files their new records, by several processes where there are many."""
         first, *others = self.parts(list(paths))
         AT.begin("changing", len(first) * (1 + len(others)), 1 + len(others))
-        helpers: List[Helper] = []
+        helpers: List[Tuple[Helper, List[bytes]]] = []
         try:
             for part in others:
-                helpers.append(Helper(partial(self.give_apart, part), keeps_signals=True))
+                try:
+                    helpers.append((Helper(partial(self.give_apart, part), keeps_signals=True), part))
+                except OSError:  # There can be no further process.
+                    first = first + part
             left = self.walk(self.give_one, first, is_whole=self.way.is_undo)
-            for helper, part in zip(helpers, others):
+            for helper, part in helpers:
                 left.update(self.given_by(helper, part))
         finally:
-            for helper in helpers:
+            for helper, _ in helpers:
                 helper.end()
         return left
 

@@ -70,10 +70,11 @@ def parse(words: List[str]) -> argparse.Namespace:
                         help="answer standard input over the snapshots of several servers, NAME:DIR")
     parser.add_argument("--timeout", metavar="SECONDS", type=seconds_of,
                         help=f"with --each and --hosts: how long another machine may take ({SECONDS})")
-    # What --each and --hosts run for each; with it: what is recorded, too; a file that others have, too; a user in answers.
+    # What --each and --hosts run for each; with it: what is recorded, too; how many lines before the script name files that others
+    # have, too; a user in answers.
     parser.add_argument("--part", action="store_true", help=argparse.SUPPRESS)
     parser.add_argument("--records", action="store_true", help=argparse.SUPPRESS)
-    parser.add_argument("--shared", action="append", default=[], help=argparse.SUPPRESS)
+    parser.add_argument("--shared-lines", type=int, default=0, help=argparse.SUPPRESS)
     parser.add_argument("--everybody", metavar="NAME:ID", help=argparse.SUPPRESS)
     sources.add_source(parser, words)
     parser.add_argument("scripts", metavar="SCRIPT", nargs="*", default=[])

@@ -5,11 +5,12 @@ from __future__ import annotations
 import ctypes
 import errno
 import os
+import re
 import signal
 import stat
 import struct
 from functools import lru_cache
-from typing import NamedTuple, NoReturn, Set, Tuple
+from typing import NamedTuple, NoReturn, Optional, Set, Tuple
 
 LIBRARY = ctypes.CDLL(None, use_errno=True)
 AT_EMPTY_PATH, AT_SYMLINK_NOFOLLOW, AT_STATX_DONT_SYNC = 0x1000, 0x100, 0x4000
@@ -22,7 +23,7 @@ ATTRIBUTES = IMMUTABLE | APPEND_ONLY
 UNKNOWN = 1  # No attribute: the file system does not say whether a file has them.
 RENAME_NOREPLACE, RENAME_EXCHANGE = 1, 2
 NO_OVERLAY, OF_ONE, OF_SEVERAL = range(3)
-OVERLAY, TMPFS = 0x794C7630, 0x01021994  # Kinds of file systems, as statfs(2) has them.
+OVERLAY, TMPFS, FUSE = 0x794C7630, 0x01021994, 0x65735546  # Kinds of file systems, as statfs(2) has them.
 OF_KERNEL = (0x9FA0, 0x62656572)  # proc and sysfs, whose files the kernel makes.
 # struct statx: the mask of what is known, attributes, names, the label (owner, group, mode), inode, which attributes are known,
 # birth in seconds and nanoseconds, the mount (device in two parts, number).
@@ -34,6 +35,7 @@ NO_DESCRIPTOR = -1
 PR_SET_PDEATHSIG = 1
 MOUNTS_FILE = "/proc/self/mountinfo"
 BOOT_FILE = "/proc/sys/kernel/random/boot_id"
+SERVER = re.compile(rb" - fuse\S* \S+ (?:\S*,)?user_id=([0-9]+)")  # In a line of a mount.
 # Of a file: mode, owner, group, names, device, inode, and birth in nanoseconds since 1970, 0 where the file system has none.
 Status = Tuple[int, int, int, int, int, int, int]
 Mount = Tuple[int, int]  # A device, and the number of the mount, which is 0 where Linux does not say it.
@@ -81,6 +83,16 @@ def overlays() -> Set[bytes]:
     except OSError:
         return set()
     return {first.split()[2] for first, second in halves if second.split()[0] == b"overlay"}
+
+
+def server_of(descriptor: int, device: int) -> Optional[int]:
+    """The user whose process says what is on the file system of an open file (FUSE), also whose files are; None where none does."""
+    if file_system_of(descriptor) != FUSE:
+        return None
+    number = b"%d:%d" % (os.major(device), os.minor(device))
+    with open(MOUNTS_FILE, "rb") as file:
+        found = [SERVER.search(line) for line in file if line.split()[2] == number]
+    return next((int(match[1]) for match in found if match is not None), None)
 
 
 def fail(*name: str) -> NoReturn:
@@ -154,10 +166,11 @@ def rename_to(old: bytes, source: int, new: bytes, target: int) -> None:
     raise FileExistsError(errno.EEXIST, os.strerror(errno.EEXIST), os.fsdecode(new))
 
 
-def rename_new(old: bytes, new: bytes, folder: int) -> None:
-    """Renames within a folder, by its descriptor; fails where there is something of the new name."""
-    if not is_renamed(old, folder, new, folder):
-        rename_to(old, folder, new, folder)
+def rename_new(old: bytes, new: bytes, folder: int, source: int = NO_DESCRIPTOR) -> None:
+    """Renames within a folder, by its descriptor, or to it from another one; fails where there is something of the new name."""
+    source = folder if source == NO_DESCRIPTOR else source
+    if not is_renamed(old, source, new, folder):
+        rename_to(old, source, new, folder)
 
 
 def move(name: bytes, source: int, target: int) -> None:

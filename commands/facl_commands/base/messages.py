@@ -16,8 +16,9 @@ from .names import shown
 
 UNUSABLE = 2  # The status where the words, the input or the system do not allow it.
 NOT_SAID = 5  # The status where all is done, and what was to be printed could not be written.
-SIGNALS = (signal.SIGHUP, signal.SIGINT, signal.SIGQUIT, signal.SIGUSR1, signal.SIGUSR2, signal.SIGALRM,
-           signal.SIGTERM)  # Each ends a command, and leaves nothing behind.
+SIGNALS = (signal.SIGHUP, signal.SIGINT, signal.SIGQUIT, signal.SIGUSR1, signal.SIGUSR2, signal.SIGALRM, signal.SIGTERM,
+           signal.SIGXCPU, signal.SIGVTALRM, signal.SIGPROF, signal.SIGPOLL,
+           signal.SIGPWR)  # Each ends a command, and leaves nothing behind.
 
 
 @contextlib.contextmanager
@@ -38,10 +39,17 @@ def held(descriptor: int) -> Iterator[int]:
         os.close(descriptor)
 
 
+class Parser(argparse.ArgumentParser):
+    """Reads words, of which some may be names of files, as a shell makes them of `*`."""
+
+    def error(self, message: str) -> NoReturn:
+        super().error(shown(os.fsencode(message)).decode())
+
+
 def parser_of(name: str, description: str, status: str) -> argparse.ArgumentParser:
     """What reads the words of a command; they may not be cut short."""
-    parser = argparse.ArgumentParser(prog=name, description=description, epilog=status, allow_abbrev=False,
-                                     formatter_class=argparse.RawDescriptionHelpFormatter)
+    parser = Parser(prog=name, description=description, epilog=status, allow_abbrev=False,
+                    formatter_class=argparse.RawDescriptionHelpFormatter)
     parser.add_argument("--version", action="version", version="%(prog)s " + VERSION)
     return parser
 

@@ -16,7 +16,7 @@ from copy import copy
 from functools import partial
 from typing import IO, List, Optional
 
-from . import acl_bytes
+from . import acl_bytes, linux
 from .messages import Failure, failing, reason
 
 PRIVATE = 0o600
@@ -25,7 +25,8 @@ MOST_WRITTEN = 64 << 20  # Bytes of what a person writes: rules, accepted findin
 PIECE = 1 << 20
 DESCRIPTOR = re.compile(rb"/(?:dev|proc/self)/fd/([0-9]{1,9})")
 LINKS_LIMIT = 40  # Symbolic links on one way, as in the kernel.
-OF_OTHER, BY_ALL, BY_OTHERS = range(3)  # Why somebody else can have written a file: its owner, all users, some users.
+# Why somebody else can have written a file: its owner, all users, some users, whoever serves its file system.
+OF_OTHER, BY_ALL, BY_OTHERS, BY_SERVER = range(4)
 
 
 def owner_name(uid: int) -> bytes:
@@ -57,6 +58,8 @@ def doubt_of(descriptor: int, look: os.stat_result, may_be_sticky: bool = True) 
     """Why somebody else can have written a file; None where nobody can. A sticky directory will do where it may be one."""
     if look.st_uid not in (0, os.geteuid()):
         return OF_OTHER
+    if linux.server_of(descriptor, look.st_dev) not in (None, 0, os.geteuid()):
+        return BY_SERVER
     if stat.S_ISLNK(look.st_mode) or may_be_sticky and stat.S_ISDIR(look.st_mode) and look.st_mode & stat.S_ISVTX:
         return None
     if look.st_mode & stat.S_IWOTH:
@@ -71,7 +74,8 @@ def fault_of(descriptor: int, look: os.stat_result) -> Optional[bytes]:
     doubt = doubt_of(descriptor, look)
     return None if doubt is None else {
         OF_OTHER: b"belongs to " + owner_name(look.st_uid), BY_ALL: b"can be written by everybody",
-        BY_OTHERS: b"can be written by others (its group, or users and groups of its ACL)"}[doubt]
+        BY_OTHERS: b"can be written by others (its group, or users and groups of its ACL)",
+        BY_SERVER: b"is on a file system of another user (FUSE)"}[doubt]
 
 
 class Way:

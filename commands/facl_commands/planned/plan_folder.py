@@ -162,6 +162,8 @@ def open_target(name: bytes) -> Target:
     old = open_at(place)
     if old.has_others():
         raise Failure(name + b" exists and is not a plan alone (it has other files); choose another name with -o")
+    if not old.has(b"plan") and os.listdir(old.descriptor):  # Files of somebody, which have such names.
+        raise Failure(name + b" exists and is not a plan; choose another name with -o")
     return place, old
 
 

@@ -14,7 +14,7 @@ import string
 from contextlib import closing, suppress
 from typing import Callable, Dict, NamedTuple, Optional
 
-from ..base import acl_bytes, live, new_file, trusted
+from ..base import acl_bytes, linux, live, new_file, trusted
 from ..base.folders import FILES, remove_snapshot
 from ..base.messages import SIGNALS, Failure, failing, held, signals_wait
 from ..base.new_file import DIRECTORY
@@ -44,7 +44,8 @@ def check_doubt(place: bytes, look: os.stat_result, doubt: Optional[int]) -> Non
         raise Failure(place + b": " + {
             trusted.OF_OTHER: b"belongs to " + trusted.owner_name(look.st_uid) + b", who could write there or exchange it",
             trusted.BY_ALL: b"everybody can write there",
-            trusted.BY_OTHERS: b"others than its owner can write there, by its group or its ACL"}[doubt])
+            trusted.BY_OTHERS: b"others than its owner can write there, by its group or its ACL",
+            trusted.BY_SERVER: b"is on a file system of another user (FUSE)"}[doubt])
 
 
 class SnapshotPlace(NamedTuple):
@@ -169,7 +170,7 @@ class NewSnapshot:
                 os.rename(self.place.name, OLD, src_dir_fd=self.place.above, dst_dir_fd=self.work)
             self.look_again()
         try:
-            os.rename(MADE, self.place.name, src_dir_fd=self.work, dst_dir_fd=self.place.above)
+            linux.rename_new(MADE, self.place.name, self.place.above, self.work)
         except OSError as error:
             text = b"cannot put the snapshot in place"
             raise self.put_back(text) if self.place.old is not None else Failure(text) from error
@@ -190,7 +191,7 @@ class NewSnapshot:
     def put_back(self, text: bytes) -> Failure:
         """Has what was there take its place again, and returns why."""
         try:
-            os.rename(OLD, self.place.name, src_dir_fd=self.work, dst_dir_fd=self.place.above)
+            linux.rename_new(OLD, self.place.name, self.place.above, self.work)
         except OSError:
             return Failure(text + b", and the one that was there is " + self.path(OLD) + b" now")
         return Failure(text + b"; " + self.place.path + b" stays as it was")

@@ -6,7 +6,7 @@ import difflib
 import os
 from typing import Callable, Dict, Iterator, List, NamedTuple, Optional, Tuple
 
-from ..base.messages import Command, Failure
+from ..base.messages import Command, Failure, Parser
 from . import prepare
 from .options import BY_FIELD, FILE, FINDING, FINDINGS, GROUP, PATH, SNAPSHOT, USER, VERB, WORD
 
@@ -220,7 +220,7 @@ def no_verb(word: str) -> Failure:
 
 def parser_of(verb: Verb) -> argparse.ArgumentParser:
     """What reads the words of a verb."""
-    parser = argparse.ArgumentParser(
+    parser = Parser(
         prog="facl " + verb.name, description=verb.does, allow_abbrev=False, add_help=False,
         epilog="facl help %s opens its page, with examples." % verb.name)
     parser.usage = "facl " + verb.usage() + " [OPTION]..."

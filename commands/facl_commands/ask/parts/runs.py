@@ -102,13 +102,16 @@ def part_options(given: argparse.Namespace, everybody: Everybody) -> List[bytes]
     return [*map(os.fsencode, program_words(given)), b"--everybody=" + everybody.word()]
 
 
-def run_all(servers: List[Server], options: Sequence[bytes], script: bytes, seconds: int = SECONDS) -> List[Outcome]:
+def run_all(servers: List[Server], options: Sequence[bytes], script: bytes, seconds: int = SECONDS,
+            shared: Sequence[bytes] = ()) -> List[Outcome]:
     """Runs facl-ask over all snapshots side by side, and reads what each wrote. Another machine has `seconds` for it, and leaves
-    the others room for as much as it writes."""
+    the others room for as much as it writes. Names of shared files are lines before the script: all users see the words of a
+    command."""
+    options = [*options, *[b"--shared-lines=%d" % len(shared)] * bool(shared)]
     numbers = [unit.number for unit in read_script(b"", script)]
     runs: List[PartRun] = []
     with scratch.new_file("facl-ask.") as file:
-        file.write(script + b"\n")
+        file.write(b"".join(name + b"\n" for name in shared) + script + b"\n")
         file.flush()
         look = os.fstatvfs(file.fileno())
         room = min(MOST_WRITTEN, look.f_bavail * look.f_frsize // (2 * len(servers) + 1))

@@ -3,7 +3,7 @@
 With --each the snapshots have to be parts of one tree: they record no path with different records, and no user or group
 with different ids. Each answers the whole script (worker.py), again for each line that is dropped (join.py), and where lines
 count: a file that several have, such as a directory above all of them, is to be counted once. So each snapshot is told which
-files these are (--shared), and says beside its answer for what it counts each of them; those that lines make count too, as a
+files these are (--shared-lines), and says beside its answer for what it counts each of them; those that lines make count too, as a
 line may make a file in a directory that several have.
 
 With --hosts each snapshot is that of a server. Each line that a server prints, and each of its messages, begins with the
@@ -14,7 +14,7 @@ from __future__ import annotations
 import argparse
 import os
 from collections import Counter
-from typing import Dict, Iterator, List, Optional, Tuple
+from typing import Dict, Iterator, List, Optional, Sequence, Tuple
 
 from ...base.folders import EXCHANGED
 from ...base.messages import UNUSABLE, Command, Failure, counted
@@ -32,7 +32,7 @@ from .runs import NOT_READABLE, Part, Server, part_options, read_servers, run_al
 from .worker import SIZE, is_counting
 
 MOST_SHARED = 1_000  # Files that several snapshots may have,
-ROOM_FOR_SHARED = 60_000  # and bytes of their names, which are words of a command.
+ROOM_FOR_SHARED = 60_000  # and bytes of their names.
 LONGEST_LINE = 1 << 20  # Bytes; of a server's answer.
 
 
@@ -195,16 +195,16 @@ def check_same(known: List[Part], parts: List[Part]) -> None:
             raise Failure(part.label + EXCHANGED)
 
 
-def shared_options(paths: List[bytes]) -> Optional[List[bytes]]:
-    """The words by which snapshots are told which files several of them have; None where these are too many."""
-    words = [b"--shared=" + path_word(path)[1:-1] for path in paths]
-    return words if len(words) <= MOST_SHARED and sum(map(len, words)) <= ROOM_FOR_SHARED else None
+def shared_names(paths: List[bytes]) -> Optional[List[bytes]]:
+    """Names of files that several snapshots have, as words of a script without quotes; None where these are too many."""
+    names = [path_word(path)[1:-1] for path in paths]
+    return names if len(names) <= MOST_SHARED and sum(map(len, names)) <= ROOM_FOR_SHARED else None
 
 
-def run_parts(servers: List[Server], options: List[bytes], script: bytes, seconds: int) -> List[Part]:
-    """The answers of all snapshots, of which those of another machine end after `seconds`."""
+def run_parts(servers: List[Server], options: List[bytes], script: bytes, seconds: int, shared: Sequence[bytes] = ()) -> List[Part]:
+    """The answers of all snapshots, of which those of another machine end after `seconds`; of `shared` several have a file."""
     parts: List[Part] = []
-    for server, outcome in zip(servers, run_all(servers, options, script, seconds)):
+    for server, outcome in zip(servers, run_all(servers, options, script, seconds, shared)):
         if isinstance(outcome, Failure):
             raise Failure((server.host + b": " if server.host else b"") + outcome.text)
         parts.append(outcome)
@@ -222,15 +222,15 @@ def answer_script(command: Command, servers: List[Server], given: argparse.Names
         raise Failure(fault + b", so they are no parts of one tree: ask servers by --hosts NAME:DIR..")
     say_notices(command, parts, given.acl5)
     shared = files_of_several(parts) if any(map(is_counting, units)) else []
-    options = shared_options(shared)
-    too_many = b"" if options is not None else (
+    names = shared_names(shared)
+    too_many = b"" if names is not None else (
         counted(len(shared), "file is", "files are") + b" in several of the snapshots, too many to count each once; "
         b"ask one snapshot alone")
     dropped: Dict[int, Joined] = {}
     while True:
-        if options or dropped:  # They answer again, and say what they count of the files that several have.
+        if names or dropped:  # They answer again, and say what they count of the files that several have.
             known = parts
-            parts = run_parts(servers, [*(options or []), *program], without(script.text, units, set(dropped)), seconds)
+            parts = run_parts(servers, program, without(script.text, units, set(dropped)), seconds, names or ())
             check_same(known, parts)
         joined = join_all(units, parts, dropped, too_many)
         new = next((number for number, it in joined.items() if it.is_dropped and number not in dropped), None)

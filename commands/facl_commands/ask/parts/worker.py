@@ -243,8 +243,9 @@ def write_part(command: Command, program: str, folder: bytes, script: Script, gi
         listings = sources.list_below(session, sources.find_tops(session, folder)) if given.records else []
         files = b"".join(blocks_of(listings))
         command.write(line_of(head_of(folder, len(files), given.acl5)) + files)
-        units = script.units()
-        shared = SharedFiles(session, list(map(os.fsencode, given.shared)), units)
+        *names, text = script.text.split(b"\n", given.shared_lines)
+        units = script._replace(text=text).units()
+        shared = SharedFiles(session, names, units)
         for unit in units:
             answer(command, session, unit if answers is None else answers.asked(unit), shared)
         command.write(b"end\n")
