@@ -21,6 +21,7 @@ from .script import Failed
 
 BOOT_SECONDS, RUN_SECONDS = 60, 120  # With virtualization; each is multiplied without it.
 SLOWER = 10
+KERNEL_WORDS = "root=/dev/vda rw console=ttyS0 net.ifnames=0 quiet mitigations=off nowatchdog"
 LOST = 255  # The status of ssh where there is no connection.
 Text = Union[str, bytes]
 
@@ -48,12 +49,13 @@ def free_port() -> int:
 
 
 class Machine:
-    """A machine, which is on or off. `more` are words of qemu for further devices."""
+    """A machine, which is on or off. `more` are words of qemu for further devices, `masked` units of systemd that stay away."""
 
     def __init__(self, image: Image, folder: str, name: str = "machine") -> None:
         self.image, self.name = image, name
         self.layer, self.console = os.path.join(folder, name + ".qcow2"), os.path.join(folder, name + ".console")
         self.more: List[str] = []
+        self.masked: List[str] = []
         self.port = 0
         self.process: Optional["subprocess.Popen[bytes]"] = None
         self.channel: Optional["subprocess.Popen[bytes]"] = None  # The connection of ssh that all lines go through.
@@ -70,7 +72,7 @@ class Machine:
         return ["qemu-system-x86_64", "-nodefaults", "-machine", "q35", *processor, "-smp", "1", "-m", "1024", "-display", "none",
                 "-serial", "file:" + self.console, "-rtc", moment.strftime("base=%Y-%m-%dT%H:%M:%S") if moment else "base=utc",
                 "-kernel", self.image.file("kernel"), "-initrd", self.image.file("initrd"),
-                "-append", "root=/dev/vda rw console=ttyS0 net.ifnames=0 quiet mitigations=off nowatchdog",
+                "-append", " ".join([KERNEL_WORDS, *("systemd.mask=" + unit for unit in self.masked)]),
                 "-drive", f"file={self.layer},format=qcow2,if=none,id=first,cache=writeback",
                 "-device", "virtio-blk-pci,drive=first",
                 "-netdev", network, "-device", "virtio-net-pci,netdev=here", "-device", "virtio-rng-pci", *self.more]
