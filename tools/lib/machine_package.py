@@ -152,7 +152,11 @@ class PackagePart:
         self.machine.run(f"rm {WORK}/*.deb; apt-get purge -y facl </dev/null")
         put_package(self.machine, self.older)
         self.machine.run(f"apt-get install -y {WORK}/facl_*.deb </dev/null")
-        self.machine.run("facl daily --install --mail root --keep 7 /srv/project; rm /root/work/*.deb")
+        line = "facl daily --install --mail root --keep 7 /srv/project"
+        done = self.machine.ask(f"{line}; systemctl is-enabled facl-daily.timer")
+        self.expect("there is no sendmail" in done.err and done.out == "disabled\n", f"`{line}` without a mailer: {done.both()}")
+        self.machine.put("/usr/sbin/sendmail", "#!/bin/sh\ncat >/root/mail\n", "755")
+        self.machine.run(f"{line}; rm {WORK}/*.deb")
         store = f"ls -A {STORE}; cat {SETTINGS}; systemctl is-enabled facl-daily.timer; systemctl is-active facl-daily.timer"
         before = self.machine.out(store)
         self.expect("--keep 7" in before and before.endswith("\nenabled\nactive\n"), f"the timer: {before}")

@@ -130,6 +130,14 @@ class WeekPart:
                 self.expect(sorted(events) == sorted(day.events), f"events {events}, and not {day.events}: {text}")
                 self.expect(day.files in text.splitlines() or not day.files, f"no line `{day.files}`: {text}")
 
+    def mounts(self) -> None:
+        """The service records what root does at a shell, also of folders that systemd can give a service otherwise."""
+        self.machine.run("touch /tmp/of-root; sed -i 's|-- |-- /etc /tmp |' /etc/default/facl-daily; systemctl start facl-daily")
+        self.machine.run(f"facl snapshot -q -o /root/by-hand /etc /tmp {FOLDER}")
+        done = self.machine.ask("diff -rq -x meta /root/by-hand $(ls -d /var/lib/facl/2026-* | tail -n 1)")
+        self.expect(done.status == 0, f"the service has another snapshot than root: {done.both()}")
+        self.runs += 1
+
     def run(self) -> str:
         """Does all days; what was done."""
         self.machine.start(FIRST_DAY)
@@ -143,6 +151,7 @@ class WeekPart:
             self.machine.run(day.changes)
             self.night(day.how)
             self.check(day)
+        self.mounts()
         kept = self.machine.out("ls /var/lib/facl | grep -c ^2026-").strip()
         self.expect(kept == str(self.runs - 1), f"{kept} snapshots of {self.runs} runs, one of which made none")
-        return f"week: {self.runs} nights by the timer, {self.read} mails by postfix"
+        return f"week: {self.runs - 1} nights by the timer, {self.read} mails by postfix"
