@@ -17,10 +17,11 @@ from .script import say
 SIZE = 256 << 20  # Bytes of the disk.
 # What a boot does without here, as there are many: no part of how the file system comes back.
 MASKED = ("modprobe@configfs.service modprobe@dm_mod.service modprobe@drm.service modprobe@efi_pstore.service "
-          "modprobe@fuse.service modprobe@loop.service kmod-static-nodes.service systemd-random-seed.service systemd- "
-          "sysusers.service systemd-sysctl.service dev-hugepages.mount dev-mqueue.mount sys-kernel-debug.mount sys-kernel- "
-          "tracing.mount sys-fs-fuse-connections.mount sys-kernel-config.mount e2scrub_reap.service getty.target systemd- "
-          "logind.service systemd-update-utmp.service systemd-update-utmp-runlevel.service systemd-journal-flush.service").split()
+          "modprobe@fuse.service modprobe@loop.service kmod-static-nodes.service systemd-random-seed.service "
+          "systemd-sysusers.service systemd-sysctl.service dev-hugepages.mount dev-mqueue.mount sys-kernel-debug.mount "
+          "sys-kernel-tracing.mount sys-fs-fuse-connections.mount sys-kernel-config.mount e2scrub_reap.service getty.target "
+          "systemd-logind.service systemd-update-utmp.service systemd-update-utmp-runlevel.service "
+          "systemd-journal-flush.service").split()
 TREE, PLAN, STORE = "/srv/tree", "/srv/edits.plan", "/srv/store"
 FACL = f"cd /srv; FACL_STORE={STORE} facl "
 # Makes directories of twenty files each, with lists of two kinds.

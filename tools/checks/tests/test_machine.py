@@ -1,4 +1,4 @@
-"""Tests of what checks/machine.py does without a machine: a disk after a power cut, the rows of a mail, README's tree and lines."""
+"""Tests of what checks/machine.py does without a machine: a disk after a cut, the rows of a mail, README's tree and lines."""
 from __future__ import annotations
 
 import random
