@@ -55,7 +55,8 @@ class LoggedDisk:
         writes = list(entries(Path(self.log).read_bytes()))
         last = max((place for place, it in enumerate(writes) if it.is_flush), default=-1)
         later = [place for place in range(last + 1, len(writes)) if not writes[place].is_flush]
-        lost = {"all": set(), "none": {*later}, "some": {place for place in later if chance.random() < 0.5}}[way]
+        share = {"all": 0.0, "some": 0.5, "none": 1.0}[way]
+        lost = {place for place in later if chance.random() < share}
         with open(self.before, "r+b") as file:
             for place, it in enumerate(writes):
                 if place not in lost:
