@@ -176,7 +176,8 @@ class PackagePart:
         done = typed(self.machine, "apt-get remove -y facl")
         left = self.machine.out(NEW_FILES).splitlines()
         of_others = [it for it in left if it.startswith(("/var/lib/systemd/", "/etc/systemd/", "/var/lib/dpkg/"))]
-        self.expect(done.status == 0 and {*left} - {*of_others} == {SETTINGS, SETTINGS + ".before", STORE}, f"left after it was removed: {left}")
+        is_left = {SETTINGS, SETTINGS + ".before", STORE}
+        self.expect(done.status == 0 and {*left} - {*of_others} == is_left, f"left after it was removed: {left}")
         said = self.machine.ask("systemctl list-timers --all; systemctl --failed --no-legend").out
         self.expect("facl" not in said, f"systemd after it was removed: {said}")
         done = typed(self.machine, "apt-get purge -y facl")

@@ -42,19 +42,21 @@ DAYS = (
     Day(f"setfacl -m u:ben:rwx {README}; chmod g= {DRAFTS}/logo.svg", (
         ("ben", "user entry added", "-wx", "", README), ("ines", "mask changed", "", "rw-", f"{DRAFTS}/logo.svg")), CHANGED % 2),
     Day("gpasswd -a guest design", (("guest", "joined design", "rwx", "", FOLDER),), "memberships: 1 new"),
-    Day(f"chown ben '{DRAFTS}/old/logo 1.svg'", (("mara", "owner changed", "", "-w-", f"{DRAFTS}/old/logo 1.svg"),), CHANGED % 1),
+    Day(f"chown ben '{DRAFTS}/old/logo 1.svg'", (("mara", "no longer the owner", "", "-w-", f"{DRAFTS}/old/logo 1.svg"),), CHANGED % 1),
     Day("true", (), how=NO_MAIL),
     Day(f"mv {FOLDER} /root/away", (), how=NO_SNAPSHOT),
     Day(f"mv /root/away {FOLDER}; setfacl -m u:guest:rw {NOTES}", (
-        ("guest", "user entry added", "rw-", "", NOTES),), CHANGED % 1),
-    Day(f"setfacl -x u:ben {README}", (("ben", "user entry removed", "", "-wx", README),), CHANGED % 1, BY_BOOT),
-    Day(f"useradd -M zoe; chown zoe {README}", (), how="two causes"),
+        ("mara, guest", "mask changed, user entry added", "rw-", "", NOTES),), CHANGED % 1),
+    Day(f"setfacl -x u:ben {README}", (("ben", "user entry gone", "", "-wx", README),), CHANGED % 1, BY_BOOT),
+    Day(f"useradd -M zoe; chown zoe {README}", (
+        ("zoe", "new user", "r-x", "", "/"), ("ines", "no longer the owner", "", "-w-", README)),
+        CHANGED % 1 + "; users: 1 new (zoe)"),
 )
 
 
 def events_in(text: str) -> List[Event]:
     """The rows of facl-diff below its heading, by the columns of the heading."""
-    lines = text.partition("== changes since ")[2].partition("\n== ")[0].splitlines()[1:]
+    lines = text.partition("== changes since ")[2].partition("\n== ")[0].rstrip().splitlines()[1:]
     heading = next((line for line in lines if line.startswith("WHO ")), "")
     starts = [match.start() for match in re.finditer(r"\S+", heading)]
     found = []
