@@ -173,7 +173,7 @@ class DirectoryPart:
         self.facl("apply /root/edits.plan", statuses=(0,))
         after = self.compare(f"{what}, after a plan")
         changed = {user for user in USERS if after[user] != before[user]}
-        named = {user for row in json.loads(said)["rows"] for user in row["users"]} & {*USERS}
+        named = {row["user"] for row in json.loads(said)["changes"]} & {*USERS}
         differs = f"{what}: the plan says that {sorted(named)} change, and {sorted(changed)} do by the kernel"
         self.faults += [differs] * (named != changed)
         self.facl("undo /root/edits.plan", statuses=(0,))
