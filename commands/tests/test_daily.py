@@ -268,6 +268,14 @@ class Units(Daily):
         self.assertEqual(self.words_in("facl-daily.service", "^ExecStart=(.*)"), ["/usr/bin/facl", "daily", "$FACL_DAILY"])
         self.assertEqual(self.words_in("facl-daily.timer", "^OnCalendar=(.*)"), ["*-*-*", "03:10:00"])
 
+    def test_the_service_has_no_mounts_of_its_own(self) -> None:
+        """Else it records another /tmp than users have, and files as read-only that they can write."""
+        with open(os.path.join(COMMANDS, "daily", "facl-daily.service"), encoding="utf-8") as file:
+            options = re.findall(r"(?m)^(\w+)=", file.read())
+        mounts = re.compile("Private|Protect|Bind|Root|Mount|Inaccessible|TemporaryFileSystem|DynamicUser|ProcSubset|.*Paths")
+        self.assertIn("ExecStart", options)
+        self.assertEqual([it for it in options if mounts.match(it)], [])
+
 
 class Faults(Daily):
     def test_a_snapshot_with_another_file_stays(self) -> None:

@@ -21,8 +21,8 @@ ALLOWED: Dict[str, Tuple[str, ...]] = {
     "questions.diff": (*QUESTION, "page"), "questions.audit": (*QUESTION, "page"),
     "apply": ("base", "planned", "model.meta"), "daily": ("base",), "snapshot": ("base",), "jobs": ("base", "program", "model"),
     # It starts commands by their names.
-    "verbs": (*QUESTION, "jobs", "daily.folder", "questions.audit.findings", "questions.who.asking", "snapshot.recording",
-              "snapshot.target"),
+    "verbs": (*QUESTION, "jobs", "daily.folder", "daily.text", "questions.audit.findings", "questions.who.asking",
+              "snapshot.recording", "snapshot.target"),
 }
 Imports = Dict[str, Set[str]]  # By the name of a module: the modules that it imports, also late ones in functions.
 

@@ -283,8 +283,9 @@ guest can do nothing with /srv/project/notes.txt: /srv/project gives no search p
     def test_the_timer(self) -> None:
         for name in ("bin", "units", "etc"):
             os.mkdir(self.path(name))
-        self.write("bin/systemctl", b'#!/bin/sh\necho "$@" >>called\n')
-        os.chmod(self.path("bin/systemctl"), 0o755)
+        for name in ("bin/systemctl", "bin/sendmail"):
+            self.write(name, b'#!/bin/sh\necho "$@" >>called\n')
+            os.chmod(self.path(name), 0o755)
         self.write("units/facl-daily.timer", b"")
         settings = os.fsencode(self.path("etc/facl-daily"))
         with mock.patch.dict(os.environ, {"PATH": self.path("bin") + ":/usr/bin:/bin", "FACL_STORE": "/var/lib/facl"}):
@@ -294,6 +295,9 @@ guest can do nothing with /srv/project/notes.txt: /srv/project gives no search p
             text = b'FACL_STORE=/var/lib/facl\nFACL_DAILY="--mail=root --exclude=tmp --cross-file-systems -- /srv"\n'
             self.assertEqual(timer.settings_of(given), timer.HEAD + text)
             with mock.patch.multiple(timer, UNITS=(self.path("units"),), SETTINGS=settings):
+                with mock.patch.object(timer, "find_sendmail", side_effect=Failure(b"no mailer")):
+                    self.assertRaises(Failure, timer.body, Command("facl daily"), given)
+                self.assertEqual((os.listdir(self.path("etc")), os.path.exists(self.path("called"))), ([], False))
                 said = [self.installed(given), self.installed(given)]
         self.assertEqual(said, [b"", b"kept the earlier settings as " + settings + b".before"])
         self.assertEqual(self.read("etc/facl-daily"), timer.HEAD + text)

@@ -46,12 +46,15 @@ for package; do
     inside facl --version
     step installed
 done
-mkdir -p root/var/lib/facl/day; echo text >root/var/lib/facl/day/dump
+mkdir -p root/var/lib/facl/day root/var/lib/systemd/timers; echo text >root/var/lib/facl/day/dump
+echo text >root/etc/default/facl-daily.before; echo >root/var/lib/systemd/timers/stamp-facl-daily.timer
 inside dpkg --remove facl; step removed
 inside dpkg --purge facl; step purged
 """
 LINK, KEPT = "./etc/systemd/system/timers.target.wants/facl-daily.timer", "./var/lib/facl/day/dump"
-SETTINGS = "./etc/default/facl-daily"
+# Settings; those that facl daily --install kept; and when the timer ran last.
+SETTINGS, BEFORE = "./etc/default/facl-daily", "./etc/default/facl-daily.before"
+STAMP = "./var/lib/systemd/timers/stamp-facl-daily.timer"
 
 
 def run(words: List[str], folder: Optional[str] = None, **environment: str) -> str:
@@ -135,7 +138,7 @@ def check_life(packages: List[str], folder: str) -> None:
     expect(on_path == ["./usr/bin/facl", "./usr/bin/facl_linux"], f"on the path: {on_path}")
     expect(LINK in found["installed"] and LINK in found["removed"], "the timer is no longer enabled")
     left = [path for path in found["removed"] if "deb-systemd-helper" not in path]
-    expect(left == sorted([SETTINGS, LINK, KEPT]), f"left after it was removed: {left}")
+    expect(left == sorted([SETTINGS, BEFORE, STAMP, LINK, KEPT]), f"left after it was removed: {left}")
     expect(found["purged"] == [KEPT], f"left after it was purged: {found['purged']}")
     expect("rm -r /var/lib/facl\n" in found[""][0], "nothing is said of what is kept")
 

@@ -10,6 +10,7 @@ from ..base import new_file, trusted
 from ..base.messages import Command, Failure
 from ..base.names import PLAIN_SHELL_WORD
 from ..base.programs import environment_of_called
+from ..daily.text import find_sendmail
 from .options import BY_FIELD
 from .store import STORE
 from .table import BY_VERB, of_option
@@ -51,6 +52,8 @@ def body(command: Command, given: argparse.Namespace) -> int:
     systemctl = shutil.which("systemctl")
     if systemctl is None or not any(os.path.exists(os.path.join(folder, TIMER)) for folder in UNITS):
         raise Failure(b"there is no facl-daily.timer, which the Debian package has; let cron run facl daily instead")
+    if given.mail:
+        find_sendmail()  # Else the first night would fail, and nobody would get a mail of it.
     if write_settings(settings_of(given)):
         command.say(b"kept the earlier settings as " + SETTINGS + KEPT)
     done = subprocess.run([systemctl, "enable", "--now", TIMER], stdin=subprocess.DEVNULL, stdout=subprocess.DEVNULL,
