@@ -279,6 +279,9 @@ guest can do nothing with /srv/project/notes.txt: /srv/project gives no search p
         self.assertEqual((done.status, done.messages), (0, b""), done)
         name, = (it for it in os.listdir(self.store) if it.startswith("20"))
         self.assertIn(b"\nexclude *.x\n", self.read("store/%s/meta" % name))
+        self.write("names", b"root\n")  # Which is beside the caller, and not in the store.
+        done = self.verb("daily", "--users", "names", "--fail-on", "none", self.path("tree"))
+        self.assertEqual((done.status, done.messages), (0, b""), done)
 
     def test_the_timer(self) -> None:
         for name in ("bin", "units", "etc"):
@@ -290,6 +293,9 @@ guest can do nothing with /srv/project/notes.txt: /srv/project gives no search p
         with mock.patch.dict(os.environ, {"PATH": self.path("bin") + ":/usr/bin:/bin", "FACL_STORE": "/var/lib/facl"}):
             self.assertRaises(Failure, timer.settings_of, self.prepared("*.x"))
             self.assertRaises(Failure, timer.settings_of, self.prepared("a b"))
+            self.assertRaises(Failure, timer.settings_of, self.prepared("tmp", "srv"))
+            rules = b" --rules=%s/rules " % os.fsencode(os.getcwd())  # The timer starts in /.
+            self.assertIn(rules, timer.settings_of(self.prepared("tmp", "--rules=rules", "/srv")))
             given = self.prepared("tmp")
             text = b'FACL_STORE=/var/lib/facl\nFACL_DAILY="--mail=root --exclude=tmp --cross-file-systems -- /srv"\n'
             self.assertEqual(timer.settings_of(given), timer.HEAD + text)
@@ -300,8 +306,8 @@ guest can do nothing with /srv/project/notes.txt: /srv/project gives no search p
         self.assertEqual(sorted(os.listdir(self.path("etc"))), ["facl-daily", "facl-daily.before"])
         self.assertEqual(self.read("called"), b"enable --now facl-daily.timer\n" * 2)
 
-    def prepared(self, glob: str) -> argparse.Namespace:
-        words = ["--install", "--mail", "root", "--exclude=" + glob, "--cross-file-systems", "/srv"]
+    def prepared(self, glob: str, *more: str) -> argparse.Namespace:
+        words = ["--install", "--mail", "root", "--exclude=" + glob, "--cross-file-systems", *(more or ["/srv"])]
         given = parser_of(BY_VERB["daily"]).parse_intermixed_args(words)
         prepare.daily(Command("facl daily"), given)
         return given

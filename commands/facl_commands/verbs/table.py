@@ -91,7 +91,7 @@ VERBS: Tuple[Verb, ...] = (
     Verb("import", (Operand("DUMP", "what getfacl -R printed", FILE),),
          "Makes a snapshot of what getfacl -R printed, on whatever host.", ("passwd", "group", *ANSWERED, "output"),
          "verbs.dumps",
-         group=RECORDING, prepare=prepare.new_snapshot, stopped=NO_SNAPSHOT),
+         group=RECORDING, prepare=prepare.new_snapshot, stopped=NO_SNAPSHOT, goes_on=True),
     Verb("who", (Operand("PERMS", "read, write, enter, or letters of rwx; commas between several"), FOLDERS),
          "Says who may read, write or enter what is in a folder, and by which entries.",
          (*CHOSEN, *PEOPLE, "lists_alone", *PRINTED), "questions.who.command", "-- @perms @folder @folders"),
