@@ -172,6 +172,14 @@ class Verbs(VerbCase):
         os.rename(self.old, self.path("old"))
         self.assertIn(b"has no two snapshots of this host to compare", self.verb("diff").messages)
 
+    def test_what_excludes_each_other(self) -> None:
+        """It is said in words of the verb, not of the command that it runs."""
+        self.expect(self.verb("diff", "-o", "page", "--below", "/srv"), 2, b"",
+                    b"facl diff: the page of -o shows all files: leave out --below\n")
+        for verb in ("who", "why", "snapshots"):
+            done = self.verb(verb, "--json", "--tsv")
+            self.assertEqual((done.status, done.out, done.messages.startswith(b"usage: facl %s " % verb.encode())), (2, b"", True))
+
     def test_lines_of_edits(self) -> None:
         done = self.verb("plan", "-e", "setfacl -n -m u:guest:r " + NOTES, "-e", "chmod 700 /srv/project")
         self.assertEqual((done.status, done.messages), (0, b""), done)
@@ -240,6 +248,19 @@ guest can do nothing with /srv/project/notes.txt: /srv/project gives no search p
         done = self.verb("why", "guest", "/both", "-q")
         text = b"guest can read or write /both, but not at once, by group:readers:r--, group:writers:-w-\n"
         self.assertEqual((done.status, done.out.split(b"\n", 4)[-1]), (0, text), done)
+
+    def test_a_folder_without_search(self) -> None:
+        """Nothing is made or removed in a directory by w alone."""
+        dump = self.read("store/new/dump")
+        for granted, status, sentence in ((b"-w-", 1, b"do nothing with /srv/project/audit, by user:ines:-w- (w is of no use without x)"),
+                                          (b"rw-", 0, b"list /srv/project/audit, by user:ines:rw-"),
+                                          (b"-wx", 0, b"write in and enter /srv/project/audit, by user:ines:-wx")):
+            self.write("store/new/dump", dump.replace(b"user:1001:r-x", b"user:1001:" + granted))
+            done = self.verb("why", "ines", "/srv/project/audit", "-q")
+            self.assertEqual((done.status, done.out.split(b"\n")[-2]), (status, b"ines can " + sentence), done)
+        done = self.verb("why", "root", NOTES, "-q")
+        self.assertEqual((done.status, done.messages), (
+            1, b"facl why: root: has the uid 0, to which the kernel grants nearly everything; this is what ACLs grant it\n"))
 
     def test_a_snapshot_that_is_no_one(self) -> None:
         for verb in VERBS:

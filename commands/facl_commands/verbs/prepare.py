@@ -55,6 +55,8 @@ def new_snapshot(_command: Command, given: argparse.Namespace) -> None:
 
 def two(command: Command, given: argparse.Namespace) -> None:
     """Chooses the two snapshots that are compared."""
+    if given.output is not None and given.below:
+        raise Failure(b"the page of -o shows all files: leave out --below")
     words = [it for it in (given.old, given.new) if it is not None]
     found = [store.named(os.fsencode(it)) for it in words]
     if len(found) < 2:

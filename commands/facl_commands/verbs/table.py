@@ -13,7 +13,8 @@ from .options import BY_FIELD, FILE, FINDING, FINDINGS, GROUP, PATH, SNAPSHOT, U
 ANSWERED = ("program", "acl5")
 CHOSEN = ("snapshot", *ANSWERED, "quiet")
 PEOPLE = ("all_users", "with_root", "alone")
-PRINTED = ("json", "tsv", "no_pager")
+FORMS = ("json", "tsv")  # Of which a line takes one.
+PRINTED = (*FORMS, "no_pager")
 PLANNED = ("with_root", "alone", "full", "keep_going", "readers", "json", "output")
 RECORDED = ("exclude", "cross_file_systems", "users", "readers")
 RECORDING, ASKING, CHANGING, SHOWING = "Record", "Ask", "Change", "Show"
@@ -228,8 +229,9 @@ def parser_of(verb: Verb) -> argparse.ArgumentParser:
         action = parser.add_argument(it.field(), metavar=it.name, help=it.help, choices=it.choices or None)
         action.nargs, action.required = it.nargs, it.nargs in (None, "+")
     group: argparse._ActionsContainer = parser.add_mutually_exclusive_group(required=True) if verb.one_of else parser
+    form = parser.add_mutually_exclusive_group()
     for field in verb.options:
-        BY_FIELD[field].add_to(group if field in verb.one_of else parser)
+        BY_FIELD[field].add_to(group if field in verb.one_of else form if field in FORMS else parser)
     parser.add_argument("-h", "--help", action="help", help="print this")
     return parser
 
