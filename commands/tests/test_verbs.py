@@ -4,6 +4,7 @@ from __future__ import annotations
 import argparse
 import json
 import os
+import subprocess
 import unittest
 from typing import Dict, Iterator, List, Set, Tuple
 from unittest import mock
@@ -200,6 +201,17 @@ class Verbs(VerbCase):
             self.assertIn(done.status, (0, 1))
             self.assertTrue(self.read("page.html").startswith(b"<!DOCTYPE html>"))
             os.unlink(self.path("page.html"))
+
+    def test_pages_that_could_not_be_said(self) -> None:
+        """None is written where the answer could not be; where it alone could not be said, the status says so."""
+        facl = os.path.join(os.path.dirname(os.path.dirname(os.path.realpath(__file__))), "facl")
+        for words, said in ((["audit", "--fail-on", "none"], 5), (["diff", "old", "new"], 1)):
+            for streams, status, is_there in ((">/dev/full", 2, False), ("2>/dev/full", said, True)):
+                done = subprocess.run(["sh", "-c", '"$@" ' + streams, "sh", facl, *words, "-q", "-o", "page"], cwd=self.folder,
+                                      env={**os.environ, "FACL_STORE": self.store}, stdout=subprocess.DEVNULL,
+                                      stderr=subprocess.DEVNULL, check=False)
+                self.assertEqual((words, done.returncode, os.path.exists(self.path("page"))), (words, status, is_there))
+            os.unlink(self.path("page"))
 
     def test_why(self) -> None:
         done = self.verb("why", "guest", NOTES)
