@@ -144,7 +144,7 @@ warn() {
 # say_what_is_missing: what the commands call, and where they are looked for
 say_what_is_missing() {
     [ -n "$linux_program" ] || warn "without facl_linux (--linux-program) the commands answer with --acl5 alone"
-    for needed in 'setfacl acl' 'getent libc-bin' 'find findutils' "$python python3"; do
+    for needed in 'getent libc-bin' "$python python3"; do
         command -v "${needed% *}" >/dev/null || warn "without ${needed% *} (package ${needed#* }) the commands fail"
     done
     ! command -v $python >/dev/null || $python -c 'import sys; sys.exit(sys.version_info < (3, 9))' ||

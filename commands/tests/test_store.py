@@ -177,6 +177,18 @@ class Verbs(VerbCase):
         self.assertEqual((done.status, done.out, os.listdir(self.store)), (2, b"", [name]))
         self.assertIn(b"does not load it", done.messages)
 
+    def test_an_import_that_could_not_be_said(self) -> None:
+        """It is made all the same, and the status says so."""
+        words = [os.path.join(COMMANDS, "facl"), "import", "before/dump", "--passwd", "before/passwd", "--group", "before/group"]
+        for number, streams in enumerate((">/dev/full", ">&-", "2>/dev/full"), 1):
+            done = subprocess.run(["sh", "-c", '"$@" ' + streams, "sh", *words], cwd=self.folder, stdout=subprocess.PIPE,
+                                  stderr=subprocess.PIPE, env={**os.environ, "FACL_STORE": self.store}, check=False)
+            self.assertEqual((done.returncode, len(os.listdir(self.store))), (5, number), done)
+
+    def test_wrong_words(self) -> None:
+        """What is said has no words of the command that the verb runs."""
+        self.expect(self.verb("snapshot", "before", "--exclude", "/"), 2, b"", b"facl snapshot: --exclude /: leaves out all\n")
+
     @unittest.skipIf(why_no_tree(), why_no_tree())
     def test_a_full_store(self) -> None:
         """No snapshot is left where the store has no room."""

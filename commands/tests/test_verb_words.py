@@ -82,6 +82,15 @@ class Places(unittest.TestCase):
             name, its = self.read(words)
             self.assertEqual((name, its["perms"], its["snapshot"], its["quiet"]), ("who", "r", "old", True), words)
 
+    def test_options_within_a_verb(self) -> None:
+        """They may be between its two words, but for --, after which all words are FOLDERs."""
+        expected = self.read(["audit", "fix", "set-user-id", "-q", "--accepted", "fix"])
+        for words in (["audit", "-q", "--accepted", "fix", "fix", "set-user-id"],
+                      ["-q", "audit", "--accepted=fix", "fix", "set-user-id"]):
+            self.assertEqual(self.read(words), expected)
+        self.assertEqual([self.read(["audit", *words])[0] for words in (["--", "fix"], ["--accepted", "fix"], ["-q"], [])],
+                         ["audit"] * 4)
+
     def test_common_options_have_one_name(self) -> None:
         names = {"snapshot": ("-s", "--snapshot"), "output": ("-o", "--output"), "quiet": ("-q", "--quiet"),
                  "dry_run": ("-n", "--dry-run"), "json": ("--json",), "tsv": ("--tsv",), "alone": ("--alone",),

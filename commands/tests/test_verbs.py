@@ -4,6 +4,7 @@ from __future__ import annotations
 import argparse
 import json
 import os
+import subprocess
 import unittest
 from typing import Dict, Iterator, List, Set, Tuple
 from unittest import mock
@@ -172,6 +173,14 @@ class Verbs(VerbCase):
         os.rename(self.old, self.path("old"))
         self.assertIn(b"has no two snapshots of this host to compare", self.verb("diff").messages)
 
+    def test_what_excludes_each_other(self) -> None:
+        """It is said in words of the verb, not of the command that it runs."""
+        self.expect(self.verb("diff", "-o", "page", "--below", "/srv"), 2, b"",
+                    b"facl diff: the page of -o shows all files: leave out --below\n")
+        for verb in ("who", "why", "snapshots"):
+            done = self.verb(verb, "--json", "--tsv")
+            self.assertEqual((done.status, done.out, done.messages.startswith(b"usage: facl %s " % verb.encode())), (2, b"", True))
+
     def test_lines_of_edits(self) -> None:
         done = self.verb("plan", "-e", "setfacl -n -m u:guest:r " + NOTES, "-e", "chmod 700 /srv/project")
         self.assertEqual((done.status, done.messages), (0, b""), done)
@@ -192,6 +201,17 @@ class Verbs(VerbCase):
             self.assertIn(done.status, (0, 1))
             self.assertTrue(self.read("page.html").startswith(b"<!DOCTYPE html>"))
             os.unlink(self.path("page.html"))
+
+    def test_pages_that_could_not_be_said(self) -> None:
+        """None is written where the answer could not be; where it alone could not be said, the status says so."""
+        facl = os.path.join(os.path.dirname(os.path.dirname(os.path.realpath(__file__))), "facl")
+        for words, said in ((["audit", "--fail-on", "none"], 5), (["diff", "old", "new"], 1)):
+            for streams, status, is_there in ((">/dev/full", 2, False), ("2>/dev/full", said, True)):
+                done = subprocess.run(["sh", "-c", '"$@" ' + streams, "sh", facl, *words, "-q", "-o", "page"], cwd=self.folder,
+                                      env={**os.environ, "FACL_STORE": self.store}, stdout=subprocess.DEVNULL,
+                                      stderr=subprocess.DEVNULL, check=False)
+                self.assertEqual((words, done.returncode, os.path.exists(self.path("page"))), (words, status, is_there))
+            os.unlink(self.path("page"))
 
     def test_why(self) -> None:
         done = self.verb("why", "guest", NOTES)
@@ -241,6 +261,19 @@ guest can do nothing with /srv/project/notes.txt: /srv/project gives no search p
         text = b"guest can read or write /both, but not at once, by group:readers:r--, group:writers:-w-\n"
         self.assertEqual((done.status, done.out.split(b"\n", 4)[-1]), (0, text), done)
 
+    def test_a_folder_without_search(self) -> None:
+        """Nothing is made or removed in a directory by w alone."""
+        dump = self.read("store/new/dump")
+        for granted, status, sentence in ((b"-w-", 1, b"do nothing with /srv/project/audit, by user:ines:-w- (w is of no use without x)"),
+                                          (b"rw-", 0, b"list /srv/project/audit, by user:ines:rw-"),
+                                          (b"-wx", 0, b"write in and enter /srv/project/audit, by user:ines:-wx")):
+            self.write("store/new/dump", dump.replace(b"user:1001:r-x", b"user:1001:" + granted))
+            done = self.verb("why", "ines", "/srv/project/audit", "-q")
+            self.assertEqual((done.status, done.out.split(b"\n")[-2]), (status, b"ines can " + sentence), done)
+        done = self.verb("why", "root", NOTES, "-q")
+        self.assertEqual((done.status, done.messages), (
+            1, b"facl why: root: has the uid 0, to which the kernel grants nearly everything; this is what ACLs grant it\n"))
+
     def test_a_snapshot_that_is_no_one(self) -> None:
         for verb in VERBS:
             if verb.group == ASKING and "snapshot" in verb.options:
@@ -279,6 +312,9 @@ guest can do nothing with /srv/project/notes.txt: /srv/project gives no search p
         self.assertEqual((done.status, done.messages), (0, b""), done)
         name, = (it for it in os.listdir(self.store) if it.startswith("20"))
         self.assertIn(b"\nexclude *.x\n", self.read("store/%s/meta" % name))
+        self.write("names", b"root\n")  # Which is beside the caller, and not in the store.
+        done = self.verb("daily", "--users", "names", "--fail-on", "none", self.path("tree"))
+        self.assertEqual((done.status, done.messages), (0, b""), done)
 
     def test_the_timer(self) -> None:
         for name in ("bin", "units", "etc"):
@@ -291,6 +327,9 @@ guest can do nothing with /srv/project/notes.txt: /srv/project gives no search p
         with mock.patch.dict(os.environ, {"PATH": self.path("bin") + ":/usr/bin:/bin", "FACL_STORE": "/var/lib/facl"}):
             self.assertRaises(Failure, timer.settings_of, self.prepared("*.x"))
             self.assertRaises(Failure, timer.settings_of, self.prepared("a b"))
+            self.assertRaises(Failure, timer.settings_of, self.prepared("tmp", "srv"))
+            rules = b" --rules=%s/rules " % os.fsencode(os.getcwd())  # The timer starts in /.
+            self.assertIn(rules, timer.settings_of(self.prepared("tmp", "--rules=rules", "/srv")))
             given = self.prepared("tmp")
             text = b'FACL_STORE=/var/lib/facl\nFACL_DAILY="--mail=root --exclude=tmp --cross-file-systems -- /srv"\n'
             self.assertEqual(timer.settings_of(given), timer.HEAD + text)
@@ -304,8 +343,8 @@ guest can do nothing with /srv/project/notes.txt: /srv/project gives no search p
         self.assertEqual(sorted(os.listdir(self.path("etc"))), ["facl-daily", "facl-daily.before"])
         self.assertEqual(self.read("called"), b"enable --now facl-daily.timer\n" * 2)
 
-    def prepared(self, glob: str) -> argparse.Namespace:
-        words = ["--install", "--mail", "root", "--exclude=" + glob, "--cross-file-systems", "/srv"]
+    def prepared(self, glob: str, *more: str) -> argparse.Namespace:
+        words = ["--install", "--mail", "root", "--exclude=" + glob, "--cross-file-systems", *(more or ["/srv"])]
         given = parser_of(BY_VERB["daily"]).parse_intermixed_args(words)
         prepare.daily(Command("facl daily"), given)
         return given

@@ -31,8 +31,8 @@ meanwhile, they are named, and nothing was changed. Then each gets its new recor
 one differs, it is named, and all get their old records back. So they do where the command is interrupted. Where it is
 killed, run it again, to go on or with --undo: PLAN has what it was about.
 
-Each file is opened once, without following a symbolic link, and is known by its descriptor from then on: whatever
-others do to its name, no other file is changed. What it does not do is in PLAN/by_hand, which is not run.
+A file is opened without following a symbolic link, compared once more, and changed by that descriptor: whatever others
+do to its name, no other file is changed. What it does not do is in PLAN/by_hand, which is not run.
 """
 STATUS = """\
 The exit status is 0 where it is done, and 3 where there is nothing to do; 1 where it is not done, and the files are

@@ -50,8 +50,7 @@ def open_folder(name: bytes) -> int:
     descriptor = trusted.open_folder(name)
     look = os.fstat(descriptor)
     if look.st_uid != os.geteuid() or look.st_mode & 0o022:
-        raise Failure(name + b": has to belong to the caller, and nobody else may write there: chmod 700 it, or give another "
-                      b"--folder")
+        raise Failure(name + b": has to belong to the caller, and nobody else may write there: chmod 700 it, or take another store")
     return descriptor
 
 

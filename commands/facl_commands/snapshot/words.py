@@ -83,9 +83,10 @@ def fault_of(option: str, value: str) -> str:
 
 
 def read_words(command: Command, words: List[str]) -> SnapshotWords:
-    """Fails below the usage where they are wrong."""
+    """Fails below the usage where they are wrong; without it for a verb, which has other words."""
     def fail(word: str, fault: str) -> Failure:
-        command.put(command.messages, USAGE.encode())
+        if USAGE.encode().startswith(b"usage: %s " % command.name):
+            command.put(command.messages, USAGE.encode())
         return Failure(os.fsencode(word + fault))
 
     options, rest = read_options(words, TAKING, ("--quiet", "--cross-file-systems"), fail, fault_of)

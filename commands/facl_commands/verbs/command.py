@@ -44,16 +44,19 @@ def place_of_verb(words: List[str]) -> int:
 
 
 def read_line(words: List[str]) -> VerbLine:
-    """Fails where there is no such verb."""
+    """Fails where there is no such verb. Options may be between the words of one that has two."""
     place = place_of_verb(words)
     before, rest = words[:place], words[place:]
     if not rest:
         raise Failure(b"a verb is missing; facl help lists them")
-    for count in (2, 1):
-        name = " ".join(rest[:count])
-        if name in BY_VERB and len(rest) >= count:
-            return VerbLine(BY_VERB[name], before + rest[count:])
-    raise no_verb(rest[0])
+    first, *after = rest
+    second = place_of_verb(after)
+    between, last = after[:second], after[second:]
+    if last and " ".join((first, last[0])) in BY_VERB and "--" not in between:
+        return VerbLine(BY_VERB[" ".join((first, last[0]))], [*before, *between, *last[1:]])
+    if first in BY_VERB:
+        return VerbLine(BY_VERB[first], before + after)
+    raise no_verb(first)
 
 
 def paths_in(verb: Verb, given: argparse.Namespace) -> List[str]:

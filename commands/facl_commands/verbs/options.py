@@ -78,7 +78,7 @@ ALL: Tuple[VerbOption, ...] = (
     VerbOption(("--tsv",), "print rows of fields with a tab between two, titles first", command="--tsv"),
     VerbOption(("--no-pager",), "print a long answer as it is, also at a terminal", command="--no-pager"),
     VerbOption(("-q", "--quiet"), "say less: not how old the snapshot is, and nothing where all is well"),
-    VerbOption(("-o", "--output"), "where to write: a file or folder that does not exist yet", "NAME", FILE),
+    VerbOption(("-o", "--output"), "where to write; only a snapshot or a plan replaces another", "NAME", FILE),
     VerbOption(("-n", "--dry-run"), "say what would be done, and change nothing"),
     # of some verbs
     VerbOption(("--depth",), "folders down to N levels below each FOLDER (default: 2)", "N", check=number_up_to(1000),

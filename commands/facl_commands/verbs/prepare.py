@@ -55,6 +55,8 @@ def new_snapshot(_command: Command, given: argparse.Namespace) -> None:
 
 def two(command: Command, given: argparse.Namespace) -> None:
     """Chooses the two snapshots that are compared."""
+    if given.output is not None and given.below:
+        raise Failure(b"the page of -o shows all files: leave out --below")
     words = [it for it in (given.old, given.new) if it is not None]
     found = [store.named(os.fsencode(it)) for it in words]
     if len(found) < 2:
@@ -207,10 +209,12 @@ def ask(command: Command, given: argparse.Namespace) -> None:
 
 
 def daily(_command: Command, given: argparse.Namespace) -> None:
-    """Puts the options of recording into one word, which facl-daily cuts at blanks; the timer gets the words as they are."""
+    """Puts the options of recording into one word, which facl-daily cuts at blanks; the timer gets the words as they are. The file
+    of --users has its name from the root on, since facl-daily works in the store."""
     given.store = os.fsdecode(store.place())
     if given.install:
         return
+    given.users = os.path.abspath(given.users) if given.users else None
     words = ["--exclude=" + it for it in given.exclude] + ["--users=" + it for it in (given.users,) if it] + [
         "--readers=" + it for it in (given.readers,) if it] + ["--cross-file-systems"] * given.cross_file_systems
     for word in words:

@@ -13,7 +13,8 @@ from .options import BY_FIELD, FILE, FINDING, FINDINGS, GROUP, PATH, SNAPSHOT, U
 ANSWERED = ("program", "acl5")
 CHOSEN = ("snapshot", *ANSWERED, "quiet")
 PEOPLE = ("all_users", "with_root", "alone")
-PRINTED = ("json", "tsv", "no_pager")
+FORMS = ("json", "tsv")  # Of which a line takes one.
+PRINTED = (*FORMS, "no_pager")
 PLANNED = ("with_root", "alone", "full", "keep_going", "readers", "json", "output")
 RECORDED = ("exclude", "cross_file_systems", "users", "readers")
 RECORDING, ASKING, CHANGING, SHOWING = "Record", "Ask", "Change", "Show"
@@ -91,22 +92,22 @@ VERBS: Tuple[Verb, ...] = (
     Verb("import", (Operand("DUMP", "what getfacl -R printed", FILE),),
          "Makes a snapshot of what getfacl -R printed, on whatever host.", ("passwd", "group", *ANSWERED, "output"),
          "verbs.dumps",
-         group=RECORDING, prepare=prepare.new_snapshot, stopped=NO_SNAPSHOT),
+         group=RECORDING, prepare=prepare.new_snapshot, stopped=NO_SNAPSHOT, goes_on=True),
     Verb("who", (Operand("PERMS", "read, write, enter, or letters of rwx; commas between several"), FOLDERS),
          "Says who may read, write or enter what is in a folder, and by which entries.",
          (*CHOSEN, *PEOPLE, "lists_alone", *PRINTED), "questions.who.command", "-- @perms @folder @folders"),
     Verb("why", (A_USER, A_FILE), "Says by which entries a user may do what with a file, or what is in the way.",
          (*CHOSEN, "alone", *PRINTED), "verbs.why"),
     Verb("user", (A_USER, FOLDERS), "Says what one user may do, folder by folder.",
-         (*CHOSEN, *PEOPLE, "depth", "lists_alone", *PRINTED), "questions.who.command",
+         (*CHOSEN, "with_root", "alone", "depth", "lists_alone", *PRINTED), "questions.who.command",
          "--user=@user -- @folder @folders"),
     Verb("files", (FOLDERS,), "Lists the files that a user owns, or of which an entry names a user.",
-         (*CHOSEN, *PEOPLE, *PRINTED, "owner", "naming"), "questions.who.command",
+         (*CHOSEN, *PRINTED, "owner", "naming"), "questions.who.command",
          "--owner=@owner --names=@naming -- @folder @folders",
          one_of=("owner", "naming")),
     Verb("who-removes", (A_FILE,), "Says who may remove a file, by its parent directory.",
          (*CHOSEN, *PEOPLE, "lists_alone", *PRINTED), "questions.who.command", "--remove=@file -- @folder"),
-    Verb("new-file", (Operand("FOLDER", "where the file is made", PATH), A_USER),
+    Verb("new-file", (Operand("FOLDER", "where the file is made", PATH), Operand("USER", "a user by name or id", USER)),
          "Says which ACL a new file gets that a user makes in a folder, and who may then do what with it.",
          (*CHOSEN, *PEOPLE, "umask", "lists_alone", *PRINTED), "questions.who.command",
          "--new-file @within @user @folder"),
@@ -228,8 +229,9 @@ def parser_of(verb: Verb) -> argparse.ArgumentParser:
         action = parser.add_argument(it.field(), metavar=it.name, help=it.help, choices=it.choices or None)
         action.nargs, action.required = it.nargs, it.nargs in (None, "+")
     group: argparse._ActionsContainer = parser.add_mutually_exclusive_group(required=True) if verb.one_of else parser
+    form = parser.add_mutually_exclusive_group()
     for field in verb.options:
-        BY_FIELD[field].add_to(group if field in verb.one_of else parser)
+        BY_FIELD[field].add_to(group if field in verb.one_of else form if field in FORMS else parser)
     parser.add_argument("-h", "--help", action="help", help="print this")
     return parser
 

@@ -11,7 +11,7 @@ from ..base.messages import Command, Failure
 from ..base.names import PLAIN_SHELL_WORD
 from ..base.programs import environment_of_called
 from ..daily.text import find_sendmail
-from .options import BY_FIELD
+from .options import BY_FIELD, FILE, VerbOption
 from .store import STORE
 from .table import BY_VERB, of_option
 
@@ -22,12 +22,21 @@ HEAD = b"# The store and the words of `facl daily`, which the timer starts: man 
 KEPT = b".before"  # After the name of settings that were there.
 
 
+def value_of(option: VerbOption, given: argparse.Namespace) -> object:
+    """The value of an option; a file has its name from the root on, since the timer starts there."""
+    value = getattr(given, option.field())
+    return os.path.abspath(value) if option.kind == FILE and value else value
+
+
 def settings_of(given: argparse.Namespace) -> bytes:
     """The file of settings: the store, and the words of the line but for --install. systemd cuts these at blanks."""
     options = [BY_FIELD[field] for field in BY_VERB["daily"].options if field != "install"]
-    line = [word for it in options for word in of_option(it.names[-1], getattr(given, it.field()))]
+    line = [word for it in options for word in of_option(it.names[-1], value_of(it, given))]
     words = [os.fsencode(word) for word in [*line, "--", *given.folders]]
     store = os.fsencode(given.store)
+    for folder in map(os.fsencode, given.folders):
+        if not folder.startswith(b"/"):
+            raise Failure(folder + b": give a FOLDER from the root on")
     for word in (store, *words):
         if not PLAIN_SHELL_WORD.match(word):
             raise Failure(word + b": the timer takes words of letters, digits and ./:=@%+,_- alone")

@@ -5,6 +5,7 @@ import argparse
 import os
 from typing import Dict, Iterator, List, NamedTuple, Optional, Set
 
+from ..base.accounts import SUPERUSER
 from ..base.messages import Command
 from ..base.names import json_text, path_word, shown
 from ..base.programs import find_program
@@ -50,6 +51,7 @@ class WhyAnswer(NamedTuple):
     steps: List[Step]  # From the root down; the file is the last one.
     granted: List[Set[str]]  # The greatest sets of letters that are granted together.
     is_directory: bool
+    is_root: bool  # Whether the user has the id 0.
 
     def closed(self) -> Optional[Step]:
         return next((it for it in self.steps if it.is_closed), None)
@@ -57,16 +59,22 @@ class WhyAnswer(NamedTuple):
     def letters(self) -> str:
         return "".join(letter for letter in "rwx" if any(letter in its for its in self.granted))
 
+    def of_use(self) -> str:
+        """The letters without w of a directory that is not granted with x: nothing can be made or removed there."""
+        can_write = not self.is_directory or any({"w", "x"} <= its for its in self.granted)
+        return self.letters() if can_write else self.letters().replace("w", "")
+
     def sentence(self) -> bytes:
         file, closed = self.steps[-1], self.closed()
         if closed is not None:
             return b"%s can do nothing with %s: %s gives no search permission (%s)" % (
                 self.user, file.name, closed.name, b", ".join(closed.texts()) or b"no entry")
         by = b", ".join(file.texts()) or b"no entry"
-        if not self.letters():
-            return b"%s can do nothing with %s, by %s" % (self.user, file.name, by)
-        words = [(IN_FOLDER if self.is_directory else WORDS)[letter] for letter in self.letters()]
-        together = set(self.letters()) in self.granted
+        letters = self.of_use()
+        if not letters:
+            return b"%s can do nothing with %s, by %s" % (self.user, file.name, by) + b" (w is of no use without x)" * bool(self.letters())
+        words = [(IN_FOLDER if self.is_directory else WORDS)[letter] for letter in letters]
+        together = any(set(letters) <= its for its in self.granted)
         joined = b", ".join(words[:-1]) + (b" and " if together else b" or ") * (len(words) > 1) + words[-1]
         return b"%s can %s %s%s, by %s" % (self.user, joined, file.name, b"" if together else b", but not at once", by)
 
@@ -96,7 +104,7 @@ def reasons_of(asker: Asker, user: bytes, word: bytes) -> WhyAnswer:
     answer = b"".join(asker.lines_of(CAN, program_word, path_word(path))).decode()
     granted = [set(it) - {"-"} for it in answer.split(" ") if it not in ("", "none")]
     steps = [*steps_of(asker, program_word, path)]
-    return WhyAnswer(asker.shown(found.shown), steps, granted, asks_as_directory(asker.session, path))
+    return WhyAnswer(asker.shown(found.shown), steps, granted, asks_as_directory(asker.session, path), found.uid == SUPERUSER)
 
 
 def fields_of(reasons: WhyAnswer) -> Dict[str, object]:
@@ -127,4 +135,6 @@ def body(command: Command, given: argparse.Namespace) -> int:
     with world_of(find_program(given), source) as world:
         reasons = reasons_of(Asker(world, given), os.fsencode(given.user), word)
     write(command, given, reasons)
-    return SOMETHING if reasons.letters() else NOTHING
+    if reasons.is_root:
+        command.say(reasons.user + b": has the uid 0, to which the kernel grants nearly everything; this is what ACLs grant it")
+    return SOMETHING if reasons.of_use() else NOTHING

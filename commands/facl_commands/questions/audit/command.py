@@ -189,7 +189,9 @@ def body(command: Command, words: List[str]) -> int:
     with paged(command, not given.no_pager):
         write(command, given, report)
     if target is not None and page is not None:
+        command.flush()
         target.write(page)
+        command.goes_on = True  # It is there, whatever can be said.
         command.say(b"wrote " + target.name)
     failing = [] if given.fail_on == NONE else WEIGHTS[: WEIGHTS.index(given.fail_on) + 1]
     has_failed = any(kind.weight in failing for kind in report.kinds())

@@ -295,6 +295,8 @@ def body(command: Command, words: List[str]) -> int:
         compared, page = compare(command, given)
         write(command, given, compared)
     if target is not None and page is not None:
+        command.flush()
         target.write(page)
+        command.goes_on = True  # It is there, whatever can be said.
         command.say(b"wrote " + target.name)
     return DIFFERS if compared.rows else SAME

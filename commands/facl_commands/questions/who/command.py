@@ -110,9 +110,9 @@ def parse(words: List[str]) -> argparse.Namespace:
     return given
 
 
-def check_source(source: Source, given: argparse.Namespace) -> None:
-    """Fails where there is no snapshot, with the order of the words, which are easily exchanged."""
-    words = b"; the words are: facl-who " + QUESTIONS[given.question].encode()
+def check_source(command: Command, source: Source, given: argparse.Namespace) -> None:
+    """Fails where there is no snapshot, with the order of the words, which are easily exchanged, but in a verb."""
+    words = b"; the words are: facl-who " + QUESTIONS[given.question].encode() if command.name == b"facl-who" else b""
     if os.path.isfile(source.folder):
         raise Failure(source.shown + b": is a file, not a snapshot; if getfacl -R printed it, make one of it: facl import "
                       + shell_word(source.shown) + words)
@@ -185,7 +185,7 @@ def body(command: Command, words: List[str]) -> int:
     if not given.question:
         read_rights(given.perms)  # Before anything is loaded.
     with sources.opened(given) as source:
-        check_source(source, given)
+        check_source(command, source, given)
         program = find_program(given)
         overview.say_notices(command, source, given.acl5, is_alone=False)
         with world_of(program, source) as world:
