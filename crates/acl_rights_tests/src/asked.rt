@@ -9,7 +9,7 @@ use crate::lines::{Line, command, path, paths};
 use acl_edit::Kind;
 use acl_entry::Perm;
 use acl_rights::{IndexedState, Judge, Posix, Verdicts};
-use acl_tree::{Command, Staged, State};
+use acl_tree::{Staged, State};
 use facl_answers::{files_asked, write_changes, write_index, write_may, write_who, write_why};
 use facl_counts::{Asked, Folders, Listing, write_below, write_folders, write_gains, write_listed};
 use std::alloc::Global;
@@ -190,24 +190,17 @@ fn nothing(alloc: Global) -> Option<World> {
     Some(World { indexed, judge })
 }
 
-/// The prepared state after a command; none where it is refused.
-pub fn prepared_by(alloc: Global, state: &State, command: Command<'_>) -> Option<Staged>
+/// The prepared state after a line; none where the line is refused.
+pub fn prepared(alloc: Global, state: &State, line: &Line) -> Option<Staged>
     ensures { IfSome result (λ staged. Reports state.now staged) }
 {
+    let command = command(alloc, state.people(), line)?;
     let outcome = state.prepare(alloc, &command);
     drop(command);
     match outcome {
         Ok(staged) => Some(staged),
         Err(_) => None,
     }
-}
-
-/// The prepared state after a line; none where the line is refused.
-pub fn prepared(alloc: Global, state: &State, line: &Line) -> Option<Staged>
-    ensures { IfSome result (λ staged. Reports state.now staged) }
-{
-    let command = command(alloc, state.people(), line)?;
-    prepared_by(alloc, state, command)
 }
 
 /// Runs a line; whether it is accepted.

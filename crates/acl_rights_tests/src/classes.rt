@@ -1,12 +1,8 @@
 //! Files by classes: the row of each file's class, how many classes there are, and how many files have each.
-
-ghost use Rattle.acl_entry.specs.Check.{rights};
-ghost use Rattle.acl_rights.specs.Tables.{IsWhole};
-
 use crate::lines::Line;
 use crate::rows::{Wanted, bytes, is_next};
 use crate::texts::{GROUP, PASSWD};
-use crate::world::{FREE, Row, World, first_wrong, nothing};
+use crate::world::{FREE, Row, first_wrong, nothing};
 use acl_names::read_path;
 use acl_rights::{ClassFiles, FileClasses};
 use acl_tree::Table;
@@ -21,17 +17,6 @@ const FILES: &[u8] =
 # file: b\n# owner: lisa\n# group: staff\nuser::rwx\ngroup::r-x\nother::r-x\n\n\
 # file: b/f\n# owner: lisa\n# group: staff\nuser::rw-\ngroup::r--\nother::r--\n\n\
 # file: b/g\n# owner: lisa\n# group: staff\nuser::rw-\ngroup::r--\nother::r--\n\n";
-
-static PEOPLE: [Row; 2] = [
-    Row {
-        line: Line::Load(Table::Passwd, PASSWD),
-        ..FREE
-    },
-    Row {
-        line: Line::Load(Table::Group, GROUP),
-        ..FREE
-    },
-];
 
 static SETUP: [Row; 3] = [
     Row {
@@ -169,143 +154,4 @@ fn files_are_counted_by_their_classes(rt: HostRuntime) {
     let along = world.index.counted_classes(alloc, true);
     let (classes, found) = along.expect(&rt, "memory");
     assert!(rt; are_counted(alloc, &classes, &found, &COUNTED_ALONG) == Some(true));
-}
-
-/// Directories of three labels, and files of two below them.
-const SHARED: &[u8] =
-    b"# file: .\n# owner: lisa\n# group: staff\nuser::rwx\ngroup::r-x\nother::r-x\n\n\
-# file: a/\n# owner: lisa\n# group: staff\nuser::rwx\ngroup::r-x\nother::r-x\n\n\
-# file: a/d/\n# owner: lisa\n# group: staff\nuser::rwx\ngroup::r-x\nother::r-x\n\n\
-# file: a/f\n# owner: lisa\n# group: staff\nuser::rw-\ngroup::r--\nother::---\n\n\
-# file: b/\n# owner: lisa\n# group: staff\nuser::rwx\ngroup::r-x\nother::---\n\n\
-# file: b/f\n# owner: lisa\n# group: staff\nuser::rw-\ngroup::r--\nother::---\n\n\
-# file: c/\n# owner: lisa\n# group: staff\nuser::rwx\ngroup::r-x\nother::r-x\n\n\
-# file: c/f\n# owner: lisa\n# group: staff\nuser::rw-\ngroup::r--\nother::---\n\n\
-# file: d/\n# owner: lisa\n# group: staff\nuser::rwx\ngroup::rwx\nother::r-x\n\n\
-# file: d/f\n# owner: lisa\n# group: staff\nuser::rw-\ngroup::r--\nother::---\n\n\
-# file: d/g\n# owner: lisa\n# group: staff\nuser::rw-\ngroup::---\nother::---\n\n\
-# file: e/\n# owner: lisa\n# group: staff\nuser::rwx\ngroup::r-x\nother::r-x\n\n\
-# file: e/1\n# owner: lisa\n# group: staff\nuser::rw-\ngroup::---\nother::---\n\n\
-# file: e/2\n# owner: lisa\n# group: staff\nuser::rw-\ngroup::---\nother::---\n";
-
-/// No directory is above the two files.
-const TOPS: &[u8] =
-    b"# file: x\n# owner: lisa\n# group: staff\nuser::rw-\ngroup::---\nother::---\n\n\
-# file: y\n# owner: lisa\n# group: staff\nuser::rw-\ngroup::r--\nother::---\n";
-
-const TWO: &[u8] = b"# file: e/1\nuser::rw-\ngroup::r--\nother::---\n\n\
-# file: e/2\nuser::rw-\ngroup::r--\nother::---\n";
-
-/// A table of one row, and how many classes files have after it: alone, along paths, and along paths where those of one row stay
-/// apart.
-type Shared = ([Row; 1], [usize; 3]);
-
-/// Of the ten classes along paths those are one that have a label, and leave it to the same users: four directories but the
-/// root, the files of one label, and those of the other one. In `b` there is another one.
-static LOADED: Shared = (
-    [Row {
-        line: Line::Load(Table::Dump, SHARED),
-        asked: (0, 15),
-        refreshed: 42,
-        ..FREE
-    }],
-    [5, 7, 10],
-);
-
-/// A file gets the label of the one beside it, and its class.
-static ONE_BESIDE: Shared = (
-    [Row {
-        line: Line::Chmod(0o640, b"d/g"),
-        ..FREE
-    }],
-    [5, 7, 9],
-);
-
-/// Two files get the class of those in `a` and `c`.
-static TWO_BESIDE: Shared = (
-    [Row {
-        line: Line::Restore(TWO),
-        ..FREE
-    }],
-    [4, 6, 8],
-);
-
-static TOPS_LOADED: Shared = (
-    [Row {
-        line: Line::Load(Table::Dump, TOPS),
-        asked: (0, 6),
-        refreshed: 6,
-        ..FREE
-    }],
-    [2, 2, 2],
-);
-
-static TOPS_ALIKE: Shared = (
-    [Row {
-        line: Line::Chmod(0o640, b"x"),
-        ..FREE
-    }],
-    [1, 1, 1],
-);
-
-/// How many classes the files have.
-fn count_of(alloc: Global, classes: FileClasses<'_>) -> Option<usize> {
-    let mut rest = classes;
-    let mut count = 0usize;
-    while let Some((_path, class)) = rest.next(alloc).ok()? {
-        if count <= class {
-            count = class.checked_add(1)?;
-        }
-    }
-    Some(count)
-}
-
-fn expect_count(rt: &impl Abort, alloc: Global, classes: FileClasses<'_>, count: usize) {
-    assert_eq!(rt; count_of(alloc, classes), Some(count));
-}
-
-/// The files have so many classes: alone, along paths, and along paths where those of one row stay apart.
-fn expect_counts(rt: &impl Abort, alloc: Global, world: &World, counts: &[usize; 3]) {
-    let [alone, along, apart] = *counts;
-    expect_count(rt, alloc, world.index.file_classes(alloc, false), alone);
-    expect_count(rt, alloc, world.index.file_classes(alloc, true), along);
-    let mut classes = world.index.file_classes(alloc, true);
-    classes.keep_apart();
-    expect_count(rt, alloc, classes, apart);
-}
-
-/// Users and groups, and no file.
-fn people(rt: &impl Abort, alloc: Global) -> World
-    ensures { IsWhole rights result.state result.index }
-{
-    let mut world = nothing(alloc).expect(rt, "memory");
-    assert_eq!(rt; first_wrong(alloc, &mut world, &PEOPLE), None);
-    world
-}
-
-/// Plays a row, and counts the classes after it.
-fn expect_shared(rt: &impl Abort, alloc: Global, world: &mut World, shared: &Shared)
-    requires { IsWhole rights world.old.state world.old.index }
-    ensures { IsWhole rights world.new.state world.new.index }
-{
-    let (row, counts) = shared;
-    assert_eq!(rt; first_wrong(alloc, world, row), None);
-    expect_counts(rt, alloc, world, counts);
-}
-
-#[test]
-fn files_share_classes_in_folders(rt: HostRuntime) {
-    let mut world = people(&rt, rt.alloc());
-    expect_shared(&rt, rt.alloc(), &mut world, &LOADED);
-    expect_shared(&rt, rt.alloc(), &mut world, &ONE_BESIDE);
-    expect_shared(&rt, rt.alloc(), &mut world, &TWO_BESIDE);
-    drop(world);
-}
-
-#[test]
-fn files_share_classes_below_nothing(rt: HostRuntime) {
-    let mut world = people(&rt, rt.alloc());
-    expect_shared(&rt, rt.alloc(), &mut world, &TOPS_LOADED);
-    expect_shared(&rt, rt.alloc(), &mut world, &TOPS_ALIKE);
-    drop(world);
 }

@@ -15,9 +15,8 @@ pub static SETUP: [Row; 3] = [
         ..FREE
     },
     Row {
-        // The root and run have one label, though one is a directory.
         line: Line::Load(Table::Dump, FILES),
-        asked: (0, 12),
+        asked: (0, 15),
         refreshed: 15,
         ..FREE
     },
@@ -56,105 +55,6 @@ pub static LIKE_ANOTHER: [Row; 2] = [
     Row {
         line: Line::Chmod(0o640, b"f"),
         asked: (0, 3),
-        refreshed: 3,
-        ..FREE
-    },
-];
-
-/// Numbers of labels are given again: log gets the one that f had, and f another one than it had first. Run gets f's label, which
-/// is not asked for.
-pub static GIVEN_AGAIN: [Row; 4] = [
-    Row {
-        line: Line::Chmod(0o600, b"f"),
-        asked: (0, 3),
-        ..FREE
-    },
-    Row {
-        line: Line::Chmod(0o604, b"log"),
-        asked: (0, 3),
-        refreshed: 3,
-        ..FREE
-    },
-    Row {
-        line: Line::Chmod(0o640, b"f"),
-        asked: (0, 3),
-        ..FREE
-    },
-    Row {
-        line: Line::Chmod(0o640, b"run"),
-        refreshed: 3,
-        ..FREE
-    },
-];
-
-/// Two more labels come before run gets f's.
-pub static GIVEN_AGAIN_BEFORE: [Row; 6] = [
-    Row {
-        line: Line::Chmod(0o600, b"f"),
-        asked: (0, 3),
-        ..FREE
-    },
-    Row {
-        line: Line::Chmod(0o604, b"log"),
-        asked: (0, 3),
-        refreshed: 3,
-        ..FREE
-    },
-    Row {
-        line: Line::Chmod(0o640, b"f"),
-        asked: (0, 3),
-        ..FREE
-    },
-    Row {
-        line: Line::Chmod(0o611, b"run"),
-        asked: (0, 3),
-        refreshed: 3,
-        ..FREE
-    },
-    Row {
-        line: Line::Chmod(0o612, b"run"),
-        asked: (0, 3),
-        refreshed: 3,
-        ..FREE
-    },
-    Row {
-        line: Line::Chmod(0o640, b"run"),
-        refreshed: 3,
-        ..FREE
-    },
-];
-
-/// Labels come and go, and f gets the label of the root between them, which is not asked for.
-pub static STILL_KNOWN: [Row; 6] = [
-    Row {
-        line: Line::Chmod(0o600, b"f"),
-        asked: (0, 3),
-        ..FREE
-    },
-    Row {
-        line: Line::Chmod(0o755, b"f"),
-        refreshed: 3,
-        ..FREE
-    },
-    Row {
-        line: Line::Chmod(0o601, b"f"),
-        asked: (0, 3),
-        refreshed: 3,
-        ..FREE
-    },
-    Row {
-        line: Line::Chmod(0o755, b"f"),
-        refreshed: 3,
-        ..FREE
-    },
-    Row {
-        line: Line::Chmod(0o602, b"f"),
-        asked: (0, 3),
-        refreshed: 3,
-        ..FREE
-    },
-    Row {
-        line: Line::Chmod(0o755, b"f"),
         refreshed: 3,
         ..FREE
     },

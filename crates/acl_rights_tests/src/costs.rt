@@ -2,13 +2,10 @@
 ghost use Rattle.acl_entry.specs.Check.{rights};
 ghost use Rattle.acl_rights.specs.Tables.{IsWhole};
 
-use crate::cost_rows::{
-    FILES_ALONE, FOUR_LABELS, GIVEN_AGAIN, GIVEN_AGAIN_BEFORE, LIKE_ANOTHER, RESTORED, SEARCH,
-    SETUP, STILL_KNOWN,
-};
+use crate::cost_rows::{FILES_ALONE, FOUR_LABELS, LIKE_ANOTHER, RESTORED, SEARCH, SETUP};
 use crate::people_rows::{
-    COMES_AND_GOES, COMES_BACK, KNOWN_AFTER_A_NEW_USER, KNOWN_AFTER_A_USER_JOINED,
-    KNOWN_AFTER_A_USER_WENT, LISTED, MEMBERSHIPS, NAMED, NOBODY_IS_LEFT, NOBODY_IS_LOADED, PRIMARY,
+    COMES_AND_GOES, COMES_BACK, LISTED, MEMBERSHIPS, NAMED, NOBODY_IS_LEFT, NOBODY_IS_LOADED,
+    PRIMARY,
 };
 use crate::world::{Row, World, asked_by_build, first_wrong, nothing};
 use std::alloc::Global;
@@ -43,12 +40,9 @@ fn lines_on_files_cost_what_they_change(rt: HostRuntime) {
         &[
             &FILES_ALONE,
             &FOUR_LABELS,
-            &GIVEN_AGAIN,
-            &GIVEN_AGAIN_BEFORE,
             &LIKE_ANOTHER,
             &RESTORED,
             &SEARCH,
-            &STILL_KNOWN,
         ],
     );
 }
@@ -65,9 +59,6 @@ fn lines_on_people_cost_what_they_change(rt: HostRuntime) {
             &LISTED,
             &COMES_AND_GOES,
             &COMES_BACK,
-            &KNOWN_AFTER_A_NEW_USER,
-            &KNOWN_AFTER_A_USER_JOINED,
-            &KNOWN_AFTER_A_USER_WENT,
             &NOBODY_IS_LEFT,
         ],
     );

@@ -83,8 +83,7 @@ fn edit(
     })
 }
 
-/// Gives files what the records of a text have.
-pub fn restore(alloc: Global, people: &People, text: &[u8]) -> Option<Command<'static>> {
+fn restore(alloc: Global, people: &People, text: &[u8]) -> Option<Command<'static>> {
     let records = read_dump(alloc, text, DumpUse::Restore, people).ok()?;
     Some(Command::Restore {
         records: DumpRecords::new(records),

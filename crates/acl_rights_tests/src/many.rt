@@ -132,81 +132,9 @@ static A_LABEL_PARTS: [Row; 2] = [
     },
 ];
 
-/// The directories' label is that of the root no more, and is known: all files get it.
-static A_KNOWN_LABEL: [Row; 2] = [
-    Row {
-        line: Line::Chmod(0o700, b"."),
-        asked: (0, 3),
-        refreshed: 36,
-        reach: &[(JOE, b"a/1", 0)],
-        ..FREE
-    },
-    Row {
-        line: Line::Setfacl(b"u::rwx,g::rx,o::rx", true, b"."),
-        refreshed: 36,
-        verdicts: &[(JOE, b"a/1", 0x33)],
-        reach: &[(JOE, b"a/1", 0x33)],
-        ..FREE
-    },
-];
-
-/// A new user is judged once on each label.
-static A_NEW_USER: [Row; 1] = [Row {
-    line: Line::Useradd(b"bob", 1003, b"staff"),
-    asked: (0, 2),
-    refreshed: 12,
-    verdicts: &[(3, b"a/1", 0x11)],
-    ..FREE
-}];
-
-/// A file goes, and another one gets the label of the directories, which is not asked for.
-static ONE_GOES: [Row; 2] = [
-    Row {
-        line: Line::Rm(b"b/4"),
-        ..FREE
-    },
-    Row {
-        line: Line::Chmod(0o755, b"c"),
-        refreshed: 3,
-        ..FREE
-    },
-];
-
-const OPENED: &[u8] = b"# file: .\nuser::rwx\ngroup::rwx\nother::r-x\n\n\
-# file: a\nuser::rwx\ngroup::rwx\nother::r-x\n\n\
-# file: a/1\nuser::rw-\ngroup::r--\nother::r--\n\n\
-# file: a/2\nuser::rw-\ngroup::r--\nother::r--\n\n\
-# file: a/3\nuser::rw-\ngroup::r--\nother::r--\n\n\
-# file: a/4\nuser::rw-\ngroup::r--\nother::r--\n\n\
-# file: b\nuser::rwx\ngroup::rwx\nother::r-x\n\n\
-# file: b/1\nuser::rw-\ngroup::r--\nother::r--\n\n\
-# file: b/2\nuser::rw-\ngroup::r--\nother::r--\n\n\
-# file: b/3\nuser::rw-\ngroup::r--\nother::r--\n\n\
-# file: b/4\nuser::rw-\ngroup::r--\nother::r--\n\n\
-# file: c\nuser::rw-\ngroup::r--\nother::r--\n";
-
-/// Records of all files: those of one label have one again, so the nine alone count whose verdicts are others.
-static ALL_RESTORED: [Row; 1] = [Row {
-    line: Line::Restore(OPENED),
-    asked: (0, 6),
-    refreshed: 27,
-    verdicts: &[(JOE, b"a/1", 0x11)],
-    ..FREE
-}];
-
 #[test]
 fn lines_on_many_files_cost_their_labels(rt: HostRuntime) {
-    let tables: [&[Row]; 8] = [
-        &ALL_FILES,
-        &A_FOLDER,
-        &THEN_ONE,
-        &A_LABEL_PARTS,
-        &A_KNOWN_LABEL,
-        &A_NEW_USER,
-        &ONE_GOES,
-        &ALL_RESTORED,
-    ];
-    for rows in tables {
+    for rows in [&ALL_FILES as &[Row], &A_FOLDER, &THEN_ONE, &A_LABEL_PARTS] {
         let mut world = nothing(rt.alloc()).expect(&rt, "memory");
         assert_eq!(rt; first_wrong(rt.alloc(), &mut world, &SETUP), None);
         assert_eq!(rt; first_wrong(rt.alloc(), &mut world, rows), None);

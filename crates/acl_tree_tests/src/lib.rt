@@ -12,8 +12,6 @@ mod edits;
 #[cfg(test)]
 mod files;
 #[cfg(test)]
-mod kinds_of_files;
-#[cfg(test)]
 mod loads;
 #[cfg(test)]
 mod people;
