@@ -22,7 +22,8 @@ DAY = datetime.timedelta(days=1)
 DELAY = datetime.timedelta(minutes=11)  # After a boot the timer waits a random time of up to ten minutes.
 SECONDS = 60  # That a run may take, with virtualization.
 # When the timer started the service last, and when its process ended last, which is 0 before that.
-LAST = "systemctl show -P LastTriggerUSec facl-daily.timer; systemctl show -P ExecMainExitTimestampMonotonic facl-daily.service"
+LAST = ("systemctl show -P LastTriggerUSec facl-daily.timer; "
+        "systemctl show -P ExecMainExitTimestampMonotonic facl-daily.service")
 NO_SNAPSHOT, NO_MAIL, BY_BOOT = "no snapshot", "no mail", "by the next boot"
 Event = Tuple[str, str, str, str, str]  # Who, what happened, what was gained and lost, and the first file.
 
