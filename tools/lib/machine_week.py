@@ -20,7 +20,7 @@ FIRST_DAY = datetime.datetime(2026, 12, 7, 12)
 AT_NIGHT = datetime.timedelta(hours=15, minutes=21)  # From noon to after the latest moment of the timer.
 DAY = datetime.timedelta(days=1)
 DELAY = datetime.timedelta(minutes=11)  # After a boot the timer waits a random time of up to ten minutes.
-SECONDS = 60  # That a run may take, with virtualization.
+SECONDS = 180  # That a run may take, with virtualization.
 # When the timer started the service last, and when its process ended last, which is 0 before that.
 LAST = ("systemctl show -P LastTriggerUSec facl-daily.timer; "
         "systemctl show -P ExecMainExitTimestampMonotonic facl-daily.service")
