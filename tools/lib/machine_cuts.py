@@ -1,13 +1,14 @@
 """The part `cuts` of checks/machine.py: power cuts in the middle of `facl apply` and `facl undo` at any moment of a disk's log.
 
 It takes no machine: the disk of lib/machine_disk.py is one of this system, which qemu-storage-daemon gives by FUSE, on a loop
-device. Each verb runs once to its end. Each beginning of the log is what a power cut at that moment may have left, less the writes
+device. Each verb runs once to its end. Each beginning of the log is what a power cut at that moment may have left, less writes
 since its last flush that the disk need not keep: of such a disk Linux mounts the file system, and the verbs go on.
 """
 from __future__ import annotations
 
 import contextlib
 import ctypes
+import fcntl
 import os
 import random
 import shutil
@@ -23,6 +24,7 @@ from .machine_power import CONTENTS, EDITS, LISTING, MAKE, PLAN, STORE, TREE, st
 from .script import Failed, say
 
 SIZE = 96 << 20
+ADD_DEVICE, REMOVE_DEVICE = 0x4C80, 0x4C81  # LOOP_CTL_ADD and LOOP_CTL_REMOVE of loop(4).
 PEOPLE = {
     "passwd": "root:x:0:0::/root:/bin/sh\n" + "".join(f"user{n}:x:7000{n}:7000{n}::/:/bin/sh\n" for n in (1, 2, 3)),
     "group": "root:x:0:\n" + "".join(f"team{n}:x:7000{n}:\n" for n in (1, 2, 3)),
@@ -52,7 +54,7 @@ class CutsPart:
         self.work, self.files, self.cuts, self.chance = work, files, cuts, random.Random(seed)
         self.disk, self.image = LoggedDisk(work, SIZE), os.path.join(work, "disk.cut")
         self.variables = {"FACL": programs[0], "FACL_LINUX": programs[1], "FACL_STORE": STORE}
-        self.loop = ""
+        self.loop = 1000 + os.getpid() % 100_000  # A device that no other program takes meanwhile.
         self.faults: List[str] = []
         self.listings: Dict[str, str] = {}
         self.contents = ""
@@ -64,16 +66,16 @@ class CutsPart:
     @contextlib.contextmanager
     def mounted(self, file: str) -> Iterator[None]:
         """A disk at /srv, always by the same device, as files are known by it until the next boot."""
-        self.loop = self.loop or run("losetup", "-f").stdout.strip()
-        run("losetup", self.loop, file)
+        device = f"/dev/loop{self.loop}"
+        run("losetup", device, file)
         try:
-            run("mount", self.loop, "/srv")
+            run("mount", device, "/srv")
             try:
                 yield
             finally:
                 run("umount", "/srv")
         finally:
-            run("losetup", "-d", self.loop)
+            run("losetup", "-d", device)
 
     @contextlib.contextmanager
     def logged(self) -> Iterator[None]:
@@ -144,7 +146,12 @@ class CutsPart:
         if ctypes.CDLL(None, use_errno=True).unshare(NEW_NAMESPACE):
             raise Failed("unshare: " + os.strerror(ctypes.get_errno()))
         run("mount", "--make-rprivate", "/")
-        self.make()
-        for verb in ("apply", "undo"):
-            self.cut(verb)
+        with open("/dev/loop-control", "rb") as control:
+            fcntl.ioctl(control, ADD_DEVICE, self.loop)
+            try:
+                self.make()
+                for verb in ("apply", "undo"):
+                    self.cut(verb)
+            finally:
+                fcntl.ioctl(control, REMOVE_DEVICE, self.loop)
         return f"cuts: {self.files} files, {self.cuts} cuts in each of apply and undo, {self.between} with files of both states"

@@ -43,7 +43,8 @@ DAYS = (
     Day(f"setfacl -m u:ben:rwx {README}; chmod g= {DRAFTS}/logo.svg", (
         ("ben", "user entry added", "-wx", "", README), ("ines", "mask changed", "", "rw-", f"{DRAFTS}/logo.svg")), CHANGED % 2),
     Day("gpasswd -a guest design", (("guest", "joined design", "rwx", "", FOLDER),), "memberships: 1 new"),
-    Day(f"chown ben '{DRAFTS}/old/logo 1.svg'", (("mara", "no longer the owner", "", "-w-", f"{DRAFTS}/old/logo 1.svg"),), CHANGED % 1),
+    Day(f"chown ben '{DRAFTS}/old/logo 1.svg'", (
+        ("mara", "no longer the owner", "", "-w-", f"{DRAFTS}/old/logo 1.svg"),), CHANGED % 1),
     Day("true", (), how=NO_MAIL),
     Day(f"mv {FOLDER} /root/away", (), how=NO_SNAPSHOT),
     Day(f"mv /root/away {FOLDER}; setfacl -m u:guest:rw {NOTES}", (
@@ -124,7 +125,7 @@ class WeekPart:
         self.expect(len(mails) == (day.how != NO_MAIL), f"{len(mails)} mails: {[str(it.get_payload()) for it in mails]}")
         for mail in mails:
             text, subject = str(mail.get_payload()), str(mail["Subject"])
-            self.expect(mail["To"] == "root" and subject.startswith("facl on server: "), f"the head of the mail: {mail.items()}")
+            self.expect(mail["To"] in ("root", "root@server") and subject.startswith("facl on server: "), f"the head of the mail: {mail.items()}")
             self.expect(text.startswith(f"facl on server, {self.noon:%Y-%m-%d}: {FOLDER}\n"), f"begins so: {text[:100]}")
             if day.how == NO_SNAPSHOT:
                 self.expect("no snapshot" in subject and FOLDER in text, f"a mail without its reason: {subject}: {text}")
