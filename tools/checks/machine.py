@@ -15,6 +15,7 @@ programs that are built, of which tools/package.sh makes the package, unless FIL
             that it need not keep (lib/machine_disk.py): after the boot each ends in exactly the state before or after
   ldap      users of slapd by sssd, who are listed or not: snapshot, who, why, user, plan and ask beside access(2) as each user
   ssh       `facl ask --hosts` over two machines: both, another key, no facl there, a connection and a machine that end meanwhile
+  cuts      as power, without a machine: --cuts N moments in the log of a disk of this system, on which each verb runs once
 
 The exit status is 1 where something is not as it has to be, 2 where the words are others. At its end, also by a signal, no
 machine, no disk beside those of DIR and no mount is left.
@@ -30,6 +31,7 @@ import time
 from typing import Callable, Dict, List, NamedTuple, Tuple
 
 from lib.machine import machines
+from lib.machine_cuts import CutsPart
 from lib.machine_directory import DirectoryPart
 from lib.machine_disk import LoggedDisk
 from lib.machine_image import TOOLS, Image, image_in, with_facl
@@ -85,8 +87,15 @@ def do_ssh(setup: Setup) -> Result:
         return part.run(), part.faults
 
 
+def do_cuts(given: argparse.Namespace, work: str) -> Result:
+    """Last, since it makes a mount namespace of this process."""
+    part = CutsPart(work, given.programs, given.files, given.cuts, given.seed)
+    return part.run(), part.faults
+
+
 PARTS: Dict[str, Callable[[Setup], Result]] = {
     "package": do_package, "week": do_week, "power": do_power, "ldap": do_ldap, "ssh": do_ssh}
+CUTS = "cuts"
 
 
 def make_package(given: argparse.Namespace, work: str) -> str:
@@ -112,15 +121,27 @@ def prepare(given: argparse.Namespace, work: str) -> Setup:
 def words() -> argparse.Namespace:
     options = argparse.ArgumentParser(description=__doc__, formatter_class=argparse.RawDescriptionHelpFormatter)
     options.add_argument("programs", nargs=2, metavar="PROGRAM", type=program_at)
-    options.add_argument("parts", nargs="*", metavar="PART", choices=[[], *PARTS], default=[])
+    options.add_argument("parts", nargs="*", metavar="PART", choices=[[], *PARTS, CUTS], default=[])
     for name in ("package", "before", "folder"):
         options.add_argument("--" + name, metavar="DIR" if name == "folder" else "FILE")
     for name, number in (("files", 3000), ("cuts", 10), ("seed", 1)):
         options.add_argument("--" + name, type=int, default=number, metavar="N")
     options.add_argument("--record", action="store_true")
     given = options.parse_intermixed_args()
-    given.parts = given.parts or list(PARTS)
+    given.parts = given.parts or [*PARTS, CUTS]
     return given
+
+
+def do_parts(given: argparse.Namespace, work: str) -> List[Result]:
+    """What each part did, in their order."""
+    found: List[Result] = []
+    named = [name for name in PARTS if name in given.parts]
+    setup = prepare(given, work) if named else None
+    for name in [*named, *[CUTS] * (CUTS in given.parts)]:
+        start = time.monotonic()
+        found.append(PARTS[name](setup) if name in PARTS and setup else do_cuts(given, work))
+        say(f"{name}: {time.monotonic() - start:.0f} s: {len(found[-1][1])} faults")
+    return [*found, (f"package {version_of(setup.package)}", [])] if setup else found
 
 
 def main() -> int:
@@ -128,15 +149,7 @@ def main() -> int:
     missing = [tool for tool in TOOLS if not shutil.which(tool)]
     if os.geteuid() != 0 or missing:
         raise Failed(f"it takes root, and {' '.join(missing or TOOLS)}")
-    amounts, faults = [], []
     with tempfile.TemporaryDirectory(prefix="facl-machine.", dir="/var/tmp") as work:
         os.makedirs(given.folder or os.path.join(work, "disks"), exist_ok=True)
-        setup = prepare(given, work)
-        for name in given.parts:
-            start = time.monotonic()
-            amount, found = PARTS[name](setup)
-            say(f"{name}: {time.monotonic() - start:.0f} s: {len(found)} faults")
-            amounts.append(amount)
-            faults += found
-        amounts.append(f"package {version_of(setup.package)}")
-    return conclude(given, "; ".join(amounts), faults)
+        found = do_parts(given, work)
+    return conclude(given, "; ".join(amount for amount, _ in found), [fault for _, faults in found for fault in faults])

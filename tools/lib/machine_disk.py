@@ -12,7 +12,7 @@ import random
 import shutil
 import struct
 from pathlib import Path
-from typing import Iterator, List, NamedTuple
+from typing import Iterator, List, NamedTuple, Sequence
 
 from .script import Failed
 
@@ -39,12 +39,16 @@ class LoggedDisk:
 
     def words(self) -> List[str]:
         """The words of qemu for the disk, at the start of a machine."""
+        return [*self.nodes(), "-device", "virtio-blk-pci,drive=logged,serial=data"]
+
+    def nodes(self, option: str = "-blockdev") -> List[str]:
+        """The words for what is between the files and the device, with an empty log."""
         shutil.copyfile(self.before, self.now)
         Path(self.log).write_bytes(b"")
         nodes = (f"driver=file,filename={self.now},node-name=file", f"driver=file,filename={self.log},node-name=log",
                  "driver=raw,file=file,node-name=disk", "driver=raw,file=log,node-name=raw_log",
                  f"driver=blklogwrites,file=disk,log=raw_log,log-sector-size={SECTOR},node-name=logged")
-        return [*(word for node in nodes for word in ("-blockdev", node)), "-device", "virtio-blk-pci,drive=logged,serial=data"]
+        return [word for node in nodes for word in (option, node)]
 
     def keep(self) -> None:
         """After a machine was switched off in order: all that was written."""
@@ -52,17 +56,21 @@ class LoggedDisk:
 
     def cut(self, way: str, chance: random.Random) -> str:
         """After a power cut: what the disk had to keep, and of the rest what the way says. Says how many writes are lost."""
-        writes = list(entries(Path(self.log).read_bytes()))
-        last = max((place for place, it in enumerate(writes) if it.is_flush), default=-1)
-        later = [place for place in range(last + 1, len(writes)) if not writes[place].is_flush]
-        share = {"all": 0.0, "some": 0.5, "none": 1.0}[way]
-        lost = {place for place in later if chance.random() < share}
-        with open(self.before, "r+b") as file:
-            for place, it in enumerate(writes):
-                if place not in lost:
-                    file.seek(it.start)
-                    file.write(it.content)
-        return f"{way} of {len(later)} writes since the last flush, {len(lost)} lost"
+        return lose(self.before, list(entries(Path(self.log).read_bytes())), way, chance)
+
+
+def lose(disk: str, writes: Sequence[Write], way: str, chance: random.Random) -> str:
+    """Does to a disk what is left of writes after a power cut. Says how many are lost."""
+    last = max((place for place, it in enumerate(writes) if it.is_flush), default=-1)
+    later = [place for place in range(last + 1, len(writes)) if not writes[place].is_flush]
+    share = {"all": 0.0, "some": 0.5, "none": 1.0}[way]
+    lost = {place for place in later if chance.random() < share}
+    with open(disk, "r+b") as file:
+        for place, it in enumerate(writes):
+            if place not in lost:
+                file.seek(it.start)
+                file.write(it.content)
+    return f"{way} of {len(later)} writes since the last flush, {len(lost)} lost"
 
 
 def entries(log: bytes) -> Iterator[Write]:

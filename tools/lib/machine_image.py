@@ -19,7 +19,9 @@ SIZE = "4G"  # Of a disk, of which what was never written takes no room.
 # What a server has before facl is installed, which is no Python, and what is installed later.
 INSTALLED = "systemd-sysv udev dbus openssh-server linux-image-cloud-amd64 e2fsprogs man-db less bash-completion ca-certificates"
 LATER = "python3 acl python3-prompt-toolkit postfix slapd ldap-utils sssd-ldap libnss-sss"
-TOOLS = ("debootstrap", "mkfs.ext4", "unshare", "qemu-system-x86_64", "qemu-img", "ssh", "ssh-keygen", "dpkg-deb")
+TOOLS = (
+    "debootstrap", "mkfs.ext4", "unshare", "qemu-system-x86_64", "qemu-img", "qemu-storage-daemon", "ssh", "ssh-keygen",
+    "dpkg-deb")
 START = r"""
 root=$1; shift
 mount -t proc proc "$root/proc"; mount -t tmpfs tmpfs "$root/tmp"

@@ -13,7 +13,7 @@ ADDRESSES = ("10.9.0.1", "10.9.0.2")
 STORE = "/var/lib/facl/today"
 SCRIPT = (f"can --reach mara {FOLDER}/notes.txt\nwho --reach w {FOLDER}\nmay --reach ines r\nno-such-tool\n"
           f"below --reach r {FOLDER}\n")
-LONG = "".join(f"may --reach {user} r\n" for user in ("ines", "ben", "mara", "guest")) * 2000
+LONG = "".join(f"may --reach {user} r\n" for user in ("ines", "ben", "mara", "guest")) * 200
 HOSTS = "".join(f"{address} {name}\n" for address, name in zip(ADDRESSES, NAMES))
 NETWORK = "[Match]\nName=eth1\n[Network]\nAddress=%s/24\n"
 SECONDS = 20  # That a server which is gone may take.
@@ -42,7 +42,7 @@ class ServersPart:
             machine.run("cat >>/etc/hosts; systemctl restart systemd-networkd", HOSTS)
             machine.run(f"echo {name} >/etc/hostname; hostname {name}")
             make_project(machine)
-        self.there.run(f"setfacl -x u:mara {FOLDER}/notes.txt; rm /etc/ssh/ssh_host_*; ssh-keygen -q -A")
+        self.there.run(f"setfacl -m u:mara:--- {FOLDER}/notes.txt; rm /etc/ssh/ssh_host_*; ssh-keygen -q -A")
         key = self.here.out("ssh-keygen -q -t ed25519 -N '' -f /root/.ssh/id_ed25519; cat /root/.ssh/id_ed25519.pub")
         # The channel of this script goes on by the sshd that has the earlier keys.
         self.there.run("cat >>/root/.ssh/authorized_keys; systemd-run -q /usr/sbin/sshd -D -p 2222", key)
@@ -50,7 +50,7 @@ class ServersPart:
         scan = "ssh-keyscan -p 2222 srvb >known_hosts 2>/dev/null && [ -s known_hosts ]"
         self.here.run(f"cd /root/.ssh; until {scan}; do sleep 1; done")
         for machine in (self.here, self.there):
-            machine.run(f"facl snapshot -q -o {STORE} {FOLDER}")
+            machine.run(f"mkdir -m 700 /var/lib/facl; facl snapshot -q -o {STORE} {FOLDER}")
 
     def ask(self, given: str = SCRIPT, words: str = "") -> Tuple[Done, float]:
         """Asks both servers, and how long that takes."""

@@ -20,9 +20,10 @@ FIRST_DAY = datetime.datetime(2026, 12, 7, 12)
 AT_NIGHT = datetime.timedelta(hours=15, minutes=21)  # From noon to after the latest moment of the timer.
 DAY = datetime.timedelta(days=1)
 DELAY = datetime.timedelta(minutes=11)  # After a boot the timer waits a random time of up to ten minutes.
-SECONDS = 60  # That a run may take, with virtualization.
+SECONDS = 180  # That a run may take, with virtualization.
 # When the timer started the service last, and when its process ended last, which is 0 before that.
-LAST = "systemctl show -P LastTriggerUSec facl-daily.timer; systemctl show -P ExecMainExitTimestampMonotonic facl-daily.service"
+LAST = ("systemctl show -P LastTriggerUSec facl-daily.timer; "
+        "systemctl show -P ExecMainExitTimestampMonotonic facl-daily.service")
 NO_SNAPSHOT, NO_MAIL, BY_BOOT = "no snapshot", "no mail", "by the next boot"
 Event = Tuple[str, str, str, str, str]  # Who, what happened, what was gained and lost, and the first file.
 
@@ -42,7 +43,8 @@ DAYS = (
     Day(f"setfacl -m u:ben:rwx {README}; chmod g= {DRAFTS}/logo.svg", (
         ("ben", "user entry added", "-wx", "", README), ("ines", "mask changed", "", "rw-", f"{DRAFTS}/logo.svg")), CHANGED % 2),
     Day("gpasswd -a guest design", (("guest", "joined design", "rwx", "", FOLDER),), "memberships: 1 new"),
-    Day(f"chown ben '{DRAFTS}/old/logo 1.svg'", (("mara", "no longer the owner", "", "-w-", f"{DRAFTS}/old/logo 1.svg"),), CHANGED % 1),
+    Day(f"chown ben '{DRAFTS}/old/logo 1.svg'", (
+        ("mara", "no longer the owner", "", "-w-", f"{DRAFTS}/old/logo 1.svg"),), CHANGED % 1),
     Day("true", (), how=NO_MAIL),
     Day(f"mv {FOLDER} /root/away", (), how=NO_SNAPSHOT),
     Day(f"mv /root/away {FOLDER}; setfacl -m u:guest:rw {NOTES}", (
@@ -123,7 +125,7 @@ class WeekPart:
         self.expect(len(mails) == (day.how != NO_MAIL), f"{len(mails)} mails: {[str(it.get_payload()) for it in mails]}")
         for mail in mails:
             text, subject = str(mail.get_payload()), str(mail["Subject"])
-            self.expect(mail["To"] == "root" and subject.startswith("facl on server: "), f"the head of the mail: {mail.items()}")
+            self.expect(mail["To"] in ("root", "root@server") and subject.startswith("facl on server: "), f"the head of the mail: {mail.items()}")
             self.expect(text.startswith(f"facl on server, {self.noon:%Y-%m-%d}: {FOLDER}\n"), f"begins so: {text[:100]}")
             if day.how == NO_SNAPSHOT:
                 self.expect("no snapshot" in subject and FOLDER in text, f"a mail without its reason: {subject}: {text}")
