@@ -88,8 +88,8 @@ class Places(unittest.TestCase):
         for words in (["audit", "-q", "--accepted", "fix", "fix", "set-user-id"],
                       ["-q", "audit", "--accepted=fix", "fix", "set-user-id"]):
             self.assertEqual(self.read(words), expected)
-        self.assertEqual([self.read(["audit", *words])[0] for words in (["--", "fix"], ["--accepted", "fix"], ["-q"], [])],
-                         ["audit"] * 4)
+        others: List[List[str]] = [["--", "fix"], ["--accepted", "fix"], ["-q"], []]
+        self.assertEqual([self.read(["audit", *words])[0] for words in others], ["audit"] * 4)
 
     def test_common_options_have_one_name(self) -> None:
         names = {"snapshot": ("-s", "--snapshot"), "output": ("-o", "--output"), "quiet": ("-q", "--quiet"),

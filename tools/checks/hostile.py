@@ -181,20 +181,20 @@ class Hostile(Check):
     def check_rows(self, its: Named) -> None:
         """JSON and rows have the file's name whole, and no more rows than files."""
         names = {json_name(its.file + b"/" * os.path.isdir(its.file)), json_name(its.file)}
-        for words in ([b"why", b"--json", b"--", its.user, its.file], [b"files", b"--json", b"--all-users", b"--owner=" + its.user, b"--", its.folder]):
+        for words in ([b"why", b"--json", b"--", its.user, its.file], [b"files", b"--json", b"--owner=" + its.user, b"--", its.folder]):
             done = self.facl(*words)
             if done.returncode in (0, 1):
                 text = done.stdout.decode()
                 found = json.loads(text)
                 expect(bool(names & set(texts_of(found))), f"{words}: {sorted(names)} is not in {text[:2000]}")
-        done = self.facl(b"files", b"--tsv", b"--all-users", b"--owner=" + its.user, b"--", its.folder)
+        done = self.facl(b"files", b"--tsv", b"--owner=" + its.user, b"--", its.folder)
         rows = [row.split(b"\t") for row in done.stdout.rstrip(b"\n").split(b"\n")]
         expect(len({len(row) for row in rows}) == 1 and len(rows) <= 3, f"{its}: {rows}")
 
     def check_terminals(self, seed: int) -> None:
         """The same at a terminal, with rows and JSON there too."""
         its = self.named(seed)
-        more = [[b"files", b"--tsv", b"--all-users", b"--owner=" + its.user, b"--", its.folder], [b"why", b"--json", b"--", its.user, its.file]]
+        more = [[b"files", b"--tsv", b"--owner=" + its.user, b"--", its.folder], [b"why", b"--json", b"--", its.user, its.file]]
         for words in self.questions(its) + self.changes(its) + more:
             out = self.at_terminal(*words)
             expect(is_seen(out), f"{words}: {out!r}")
