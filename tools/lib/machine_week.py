@@ -125,7 +125,8 @@ class WeekPart:
         self.expect(len(mails) == (day.how != NO_MAIL), f"{len(mails)} mails: {[str(it.get_payload()) for it in mails]}")
         for mail in mails:
             text, subject = str(mail.get_payload()), str(mail["Subject"])
-            self.expect(mail["To"] in ("root", "root@server") and subject.startswith("facl on server: "), f"the head of the mail: {mail.items()}")
+            is_headed = mail["To"] in ("root", "root@server") and subject.startswith("facl on server: ")
+            self.expect(is_headed, f"the head of the mail: {mail.items()}")
             self.expect(text.startswith(f"facl on server, {self.noon:%Y-%m-%d}: {FOLDER}\n"), f"begins so: {text[:100]}")
             if day.how == NO_SNAPSHOT:
                 self.expect("no snapshot" in subject and FOLDER in text, f"a mail without its reason: {subject}: {text}")
