@@ -9,7 +9,7 @@ from typing import List, NamedTuple, Tuple
 from examples import blocks_of, difference, examples_of, read_lines
 
 from .machine import Done, Machine
-from .machine_project import FOLDER, listing, make_project
+from .machine_project import listing, make_project
 from .script import TOP, Failed
 
 WORK = "/root/work"
