@@ -106,7 +106,8 @@ class Hostile(Check):
 
     def named(self, seed: int) -> Named:
         at = seed * STRIDE % len(OF_FILES)
-        name, user = OF_FILES[at], OF_USERS[at % len(OF_USERS)]
+        name, place = OF_FILES[at], at % len(OF_USERS)
+        user = OF_USERS[place] if not OF_USERS[place].isdigit() else b"%d" % (FIRST + place)  # Digits alone are an id.
         folder = self.name(b"tree/" + name)
         return Named(os.path.join(folder, name), folder, user, user)
 
