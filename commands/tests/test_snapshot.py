@@ -27,6 +27,14 @@ from facl_commands.page import columns as page_columns
 from facl_commands.snapshot import in_order, list_texts, runs, scope, walking
 
 FILES = ["dump", "group", "inodes", "links", "marks", "meta", "passwd"]
+# The first folder that is made has a signal wait.
+SIGNALLED = """
+from ..base import new_file
+def signalled(name, folder, make=new_file.make_directory):
+    os.kill(os.getpid(), 15)
+    return make(name, folder)
+new_file.make_directory = signalled
+"""
 
 
 def without_marks(meta: List[List[bytes]]) -> List[List[bytes]]:
@@ -743,6 +751,13 @@ class Said(SnapshotCase):
         status = running.wait()
         os.remove(self.path("at_work"))
         return status
+
+    def test_a_signal_while_the_folder_is_made(self) -> None:
+        """It waits, and what was made goes, although the snapshot has not begun."""
+        before = os.listdir(self.folder)
+        self.add_code(SIGNALLED)
+        done = self.snapshot("before", "tree")
+        self.assertEqual((done.status, os.listdir(self.folder)), (128 + signal.SIGTERM, before))
 
     def test_signals(self) -> None:
         self.expect_status(self.snapshot("new", "tree"), 0)

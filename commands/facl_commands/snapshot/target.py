@@ -135,10 +135,11 @@ class NewSnapshot:
             with failing(self.place.given + b": cannot make a folder beside it"), signals_wait():
                 self.work = new_file.make_directory(self.name, self.place.above)
                 self.made = new_file.make_directory(MADE, self.work)
-        except Failure:
-            self.remove()
+            return self
+        except BaseException:  # Also a signal that has waited: without an end of this call nothing calls `__exit__`.
+            with signals_wait():
+                self.remove()
             raise
-        return self
 
     def __exit__(self, *_error: object) -> None:
         with signals_wait():
