@@ -48,7 +48,7 @@ impl Bytes {
         }
     }
 
-    /// Returns no bytes, with room for `count`. Allocates nothing for at most `INLINE_BYTES`.
+    /// Returns no bytes, with room for `count`. May allocate for more than `INLINE_BYTES`.
     pub(crate) fn with_capacity(alloc: Global, count: usize) -> Result<Bytes, AllocError>
         ensures { IfOk result (λ bytes. bytes ≡ []) }
     {
@@ -61,7 +61,7 @@ impl Bytes {
         })
     }
 
-    /// Copies a slice. Allocates nothing for at most `INLINE_BYTES`.
+    /// Copies a slice. May allocate for more than `INLINE_BYTES`.
     pub(crate) fn from_slice(alloc: Global, slice: &[u8]) -> Result<Bytes, AllocError>
         ensures { IfOk result (λ bytes. bytes ≡ slice.now) }
     {
@@ -75,7 +75,7 @@ impl Bytes {
         Ok(Bytes { form })
     }
 
-    /// Copies the bytes. Allocates nothing for at most `INLINE_BYTES`.
+    /// Copies the bytes. May allocate for more than `INLINE_BYTES`.
     pub(crate) fn try_clone(&self, alloc: Global) -> Result<Bytes, AllocError>
         ensures { IfOk result (λ bytes. bytes ≡ self.now) }
     {

@@ -1,4 +1,4 @@
-//! Borrowed paths: the paths above them and those that two have in common are found with no allocation.
+//! Borrowed paths: the paths above them and those that two have in common are found whatever memory there is.
 
 ghost use Rattle.std.specs.Prelude.{◌≡◌, ◌-◌, ◌++◌, ◌==◌, ℕ, List, length, take, map, IsTrue};
 ghost use Rattle.std.specs.List.{list_all};
