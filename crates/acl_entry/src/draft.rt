@@ -117,7 +117,7 @@ impl Draft {
         class_union(&self.entries)
     }
 
-    /// Returns the list of these entries, without an allocation.
+    /// Returns the list of these entries, whatever memory there is.
     ///
     /// # Errors
     ///

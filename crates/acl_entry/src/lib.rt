@@ -5,7 +5,7 @@
 //! and trees are in the crates above.
 //!
 //! A call whose only error is [`NoMemory`] fails only if memory runs out. A function that returns no `Result`
-//! allocates nothing.
+//! gives its result whatever memory there is.
 #![tactic(auto)]
 
 mod acl;
