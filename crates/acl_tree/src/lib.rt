@@ -4,7 +4,7 @@
 //! restored, all or none.
 //!
 //! A call whose only error is `AllocError` or `NoMemory` fails only if memory runs out. A function that returns no `Result`
-//! allocates nothing.
+//! gives its result whatever memory there is.
 #![tactic(auto)]
 
 mod alike;
