@@ -3,7 +3,7 @@
 //! tags also keeps, for each tag, the numbers of the nodes that have it.
 //!
 //! A call whose only error is `AllocError` fails only if memory runs out, or if a number or a count of paths would be
-//! too large. A function that returns no `Result` allocates nothing.
+//! too large. A function that returns no `Result` gives its result whatever memory there is.
 #![tactic(auto)]
 
 mod above;
