@@ -1,4 +1,4 @@
--- What is true of these definitions. Each is proved as a law of src/laws.rt, whose comment has it in words.
+-- What is true of attributes. Each is proved as a law of src/attr_laws.rt, whose comment has it in words.
 use Rattle.std.specs.Prelude.{◌≡◌, ◌↔◌, ℕ, List, Ok, Err}
 use Rattle.acl_entry.specs.Lists.{KeyMap}
 use Rattle.acl_text.specs.declared.fault.FaultKind.TheVariants.{BadAttr}

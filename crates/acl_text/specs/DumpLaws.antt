@@ -1,4 +1,4 @@
--- What is true of these definitions. Each is proved as a law of src/laws.rt, whose comment has it in words.
+-- What is true of dumps. Each is proved as a law of src/dump_laws.rt, whose comment has it in words.
 use Rattle.std.specs.Prelude.{◌≡◌, ◌↔◌, ℕ, List, [], Option, Ok, Err, true}
 use Rattle.std.specs.List.{AllByRecursion}
 use Rattle.acl_text.specs.declared.record.DumpUse.{DumpUse}

@@ -72,7 +72,7 @@ specs_from at (e ∷ es) = spec_of at e ∷ specs_from (at + 1) es
 
 -- ---- namings under which a written list is read as that list
 
--- a name is looked up as the id that it was printed for, is not empty and not digits alone
+-- a name is made of bytes, not empty, not digits alone, and looked up as the id that it was printed for
 pub record IsFoundAs (look_up : List ℕ → Option ℕ) (id : ℕ) (name : List ℕ) : Type 0 where
   pub made_of_bytes : list_all is_byte name ≡ true
   pub not_empty : 0 < length name

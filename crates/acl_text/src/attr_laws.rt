@@ -1,4 +1,4 @@
-//! Laws of the definitions, each proved as the contract of a function that does nothing.
+//! Laws of attributes, each proved as the contract of a function that does nothing.
 
 ghost use Rattle.acl_text.specs.AttrLaws.{AttributeEncodesItsEntries, AttributeFaultIsFirst};
 

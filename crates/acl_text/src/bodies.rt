@@ -8,7 +8,7 @@ ghost use Rattle.acl_text.specs.KnownBodies.{IsAmong};
 use crate::body::{Body, after_body};
 use std::alloc::{AllocError, Global};
 
-/// The most bodies that are kept.
+/// One less than the most bodies that are kept.
 const MAX_BODIES: usize = 16384;
 
 /// The bytes of a dump for each place of the table.

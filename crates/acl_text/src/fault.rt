@@ -34,7 +34,7 @@ pub enum FaultKind {
     UnknownGroup,
     /// The entry is a base entry, which cannot be removed.
     BaseEntry,
-    /// A header line has no value, comes twice, or comes after an entry.
+    /// A header line has no value or flags that are not valid, comes twice, or comes after an entry.
     BadHeader,
     /// A record lacks a header line, or a line comes before the first record.
     MissingHeader,

@@ -64,10 +64,10 @@ impl TableRow for GroupRow {
     }
 }
 
-/// Returns the counted rows of a group(5) text: the first row of each name, at most `MAX_ROWS`. Empty lines and lines
-/// that begin with `#` are ignored; a line is `name:password:gid:names`, with a name that is not empty, an id of
-/// digits alone, at most 4294967294, and names between commas, of which empty ones are ignored, else it is `BadRow`;
-/// a row whose name came before is not counted, but must be well formed. The fault of the first faulty line is
+/// Returns the counted rows of a group(5) text: the first row of each name, at most `MAX_ROWS`; one more is `TooMany`.
+/// Empty lines and lines that begin with `#` are ignored; a line is `name:password:gid:names`, with a name that is not
+/// empty, an id of digits alone, at most 4294967294, and names between commas, of which empty ones are ignored, else it is
+/// `BadRow`; a row whose name came before is not counted, but must be well formed. The fault of the first faulty line is
 /// returned.
 pub fn read_group(alloc: Global, bytes: &[u8]) -> Result<Vec<GroupRow>, TextFault>
     ensures { Gives (λ rows. rows.items) result (group_of bytes.now) }

@@ -125,7 +125,7 @@ fn read_flags(at: usize, value: &[u8]) -> Result<[bool; 3], TextFault>
     }
 }
 
-/// Returns the fault of a header line that has no value, comes twice, or comes after an entry.
+/// Returns the fault of a header line that has no value or flags that are not valid, comes twice, or comes after an entry.
 pub(crate) fn bad_header(at: usize) -> TextFault
     ensures kind { result.kind ≡ FaultKind.BadHeader }
     ensures place { result.at ≡ at }

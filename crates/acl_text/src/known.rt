@@ -1,4 +1,4 @@
-//! Reads a dump without a fault: a body that comes again is read once.
+//! Reads a dump without a fault: a body that comes again is mostly read once.
 
 ghost use Rattle.std.specs.Prelude.{◌≡◌, ◌+◌, ◌^◌, ◌<◌, ◌≤◌, ◌++◌, ◌∷◌, ℕ, List, [], None, Ok, false, IfOk, OnOk, length, slice_index_or};
 ghost use Rattle.acl_text.specs.InTurn.{Gives};

@@ -1,5 +1,5 @@
 //! The texts of access control lists: names and paths, entry texts, rows of passwd(5) and group(5), dumps, and attribute
-//! bytes. Each is read exactly, and written so that it is read again.
+//! bytes. Each is read exactly, and all but the rows are written so that they are read again.
 //!
 //! A dump has files with their owners, groups, flags and lists, as getfacl(1) writes them and setfacl(1) --restore reads
 //! them. Attribute bytes are those of `system.posix_acl_access` and `system.posix_acl_default`, in which Linux keeps lists

@@ -50,10 +50,10 @@ impl TableRow for PasswdRow {
     }
 }
 
-/// Returns the counted rows of a passwd(5) text: the first row of each name, at most `MAX_ROWS`. Empty lines and lines
-/// that begin with `#` are ignored; a line is `name:password:uid:gid:gecos:home:shell`, with a name that is not empty
-/// and ids of digits alone, at most 4294967294, else it is `BadRow`; a row whose name came before is not counted, but
-/// must be well formed. The fault of the first faulty line is returned.
+/// Returns the counted rows of a passwd(5) text: the first row of each name, at most `MAX_ROWS`; one more is `TooMany`.
+/// Empty lines and lines that begin with `#` are ignored; a line is `name:password:uid:gid:gecos:home:shell`, with a name
+/// that is not empty and ids of digits alone, at most 4294967294, else it is `BadRow`; a row whose name came before is not
+/// counted, but must be well formed. The fault of the first faulty line is returned.
 pub fn read_passwd(alloc: Global, bytes: &[u8]) -> Result<Vec<PasswdRow>, TextFault>
     ensures { Gives (λ rows. rows.items) result (passwd_of bytes.now) }
 {

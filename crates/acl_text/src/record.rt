@@ -21,7 +21,7 @@ pub(crate) struct DumpReading<'n, N: Names> {
     pub names: &'n N,
 }
 
-/// A file as in a record of a dump. It shares its lists with records that have the same lines.
+/// A file as in a record of a dump. It may share its lists with records that have the same lines.
 #[derive(Drop)]
 pub struct DumpRecord {
     /// The number of its `# file:` line, counted from 1.
