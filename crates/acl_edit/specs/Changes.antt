@@ -1,4 +1,4 @@
--- What a setfacl(1) line asks for: its options but --restore and --test.
+-- What a setfacl(1) line asks for: its options but -R, --restore and --test.
 use Rattle.std.specs.Prelude.{Bool, List}
 use Rattle.acl_text.specs.declared.entries.Spec.{Spec}
 use Rattle.acl_edit.specs.declared.edit.Edit.{Edit}

@@ -23,7 +23,7 @@ add_mask m = if has_named m && not (has_mask m) then put_some m Mask (maps.get m
 abbrev pub recalculate : KeyMap → KeyMap
 recalculate m = if has_mask m then maps.insert m Mask (class_union m) else m
 
--- -n leaves the mask, and so does a mask that the line gives, but under --mask
+-- -n leaves the mask, and without --mask so does a mask that the line gives
 abbrev pub is_recalculated : Change → Part → Bool
 is_recalculated c p = not c.no_mask && (c.remask || not (gives_mask p))
 

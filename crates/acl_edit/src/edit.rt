@@ -21,7 +21,7 @@ use std::marker::Model;
 /// An edit of one file.
 #[derive(Drop)]
 pub enum Edit {
-    /// A setfacl(1) line, but for `--restore` and `--test`. The order of its options on the line has no meaning.
+    /// A setfacl(1) line, but for `-R`, `--restore` and `--test`. The order of its options on the line has no meaning.
     Change {
         /// `-b`: the access list keeps its base entries with what they grant, and the default list goes.
         strip: bool,
@@ -31,7 +31,7 @@ pub enum Edit {
         as_default: bool,
         /// `-n`: no mask is recalculated.
         no_mask: bool,
-        /// `--mask`: the mask is recalculated even if one was given.
+        /// `--mask`: the mask is recalculated even if one was given, but not under `-n`.
         remask: bool,
         /// `-x`, `-X`: the keys that are removed.
         remove: Specs,
@@ -45,8 +45,8 @@ pub enum Edit {
         access: Option<Acl>,
         dacl: Option<Acl>,
     },
-    /// chacl(1) `-R`, `-D` and `-B`: the access list becomes the minimal list of the file's mode, and the
-    /// default list goes.
+    /// chacl(1) `-R`, `-D` and `-B`: under `access` the access list becomes the minimal list of the file's mode, and
+    /// under `dacl` the default list goes.
     Flatten {
         access: bool,
         dacl: bool,
@@ -277,7 +277,7 @@ fn flatten(alloc: Global, node: &Node, access: bool, dacl: bool) -> Result<Node,
 
 impl Edit {
     /// Returns the edit that gives a file of the same kind the lists, the owner, the group and the flags of this one,
-    /// as its record in a dump does.
+    /// as its record in a dump does, if this one is a directory or has no default list.
     pub fn restoring(alloc: Global, node: &Node) -> Result<Edit, AllocError>
         ensures gives_back { IsSound node.now → IfOk result (GivesBack node.now) }
         ensures room { HasShortLists node.now → IsOk result }
