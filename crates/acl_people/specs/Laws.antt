@@ -6,7 +6,7 @@ use Rattle.std.specs.FinSet.{contains}
 use Rattle.acl_people.specs.KnownPeople.{KnownPeople, IsSound, names_user, person, persons}
 use Rattle.acl_people.specs.Changes.{gid_of, is_member, with_member, without_member, with_user, without_user}
 
--- a member that is added and removed again: the row is as it was
+-- a member that is added and removed again, whom the group's row did not name: all is as it was
 abbrev pub AddedMemberIsRemoved : Type 0
 AddedMemberIsRemoved = (user group : ℕ) (known : KnownPeople) → is_member user group known ≡ false → without_member user group (with_member user group known) ≡ known
 

@@ -74,7 +74,7 @@ impl People {
         self.with_user_row(alloc, row)
     }
 
-    /// Removes a user, whose name is in no row of a group.
+    /// Removes a user, and the name of the user from the rows of all groups.
     pub fn without_user(&self, alloc: Global, user: usize) -> Result<People, AllocError>
         requires { user < length self.now.users }
         ensures rows { Makes result (without_user user self.now) }

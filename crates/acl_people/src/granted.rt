@@ -1,6 +1,6 @@
-//! What acl(5)'s check grants all users on one file, in one walk over the file's entries.
+//! What acl(5)'s check and Linux grant all users on one file.
 //!
-//! First all are others. Then the users of the groups that the label mentions, then those whom it names, and then
+//! By the check, first all are others. Then the users of the groups that the label mentions, then those whom it names, and then
 //! the owner have what the case of the check that is theirs grants.
 
 ghost use Rattle.std.specs.Prelude.{◌≡◌, if◌then◌else◌, map, length};
@@ -127,7 +127,7 @@ fn put_members(row: &mut [Requests], users: &Subjects, group: Id)
     put(row, users.of_group(group), Requests::within(Perm::none()));
 }
 
-/// What a mode whose group digit is 0 grants each user.
+/// Writes what a mode whose group digit is 0 grants each user into `row`, in the order of the users.
 fn granted_to_all_by_mode(users: &Subjects, label: &Label, row: &mut [Requests])
     requires { length row.old ≡ length users.now }
     ensures { row.new ≡ map (λ u. byte_of (check_mode u label.now)) users.now }
@@ -139,8 +139,8 @@ fn granted_to_all_by_mode(users: &Subjects, label: &Label, row: &mut [Requests])
     put(row, users.of_id(label.owner), owner);
 }
 
-/// The requests that Linux grants each user on a file, in the order of the users ([`acl_entry::granted_by_linux`]). It looks
-/// at no other user than [`granted_to_all`] does.
+/// Writes the requests that Linux grants each user on a file ([`acl_entry::granted_by_linux`]) into `row`, in the order of
+/// the users. It looks up no other user than [`granted_to_all`] does.
 pub fn granted_to_all_by_linux(users: &Subjects, label: &Label, row: &mut [Requests])
     requires { length row.old ≡ length users.now }
     ensures { row.new ≡ map (λ u. linux_rights u label.now) users.now }

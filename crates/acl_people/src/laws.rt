@@ -2,7 +2,8 @@
 
 ghost use Rattle.acl_people.specs.Laws.{AddedMemberIsRemoved, AddedUserIsRemoved, GroupHeldOtherwiseStays};
 
-/// Proof only: a member that is added to a group's row and removed again leaves the row as it was.
+/// Proof only: a member that is added and removed again leaves all rows as they were, where the group's row did not name
+/// the user.
 pub fn added_member_is_removed()
     ensures { AddedMemberIsRemoved }
 {}

@@ -2,7 +2,7 @@
 //! in their order, found by id and by group; and what acl(5)'s check grants them all on a file.
 //!
 //! A call whose only error is `AllocError` or `NoMemory` fails only if memory runs out. A function that returns no `Result`
-//! allocates nothing.
+//! gives its result whatever memory there is.
 #![tactic(auto)]
 
 mod accounts;
