@@ -96,8 +96,8 @@ impl<T: Drop> From<AllocFailed<T>> for EditFault {
 ///
 /// # Errors
 ///
-/// Default entries or a default list for a file that is not a directory, but in a recursion, which takes no memory to
-/// find; a resulting list that is not valid; that memory ran out, never if no list has more than eight entries,
+/// Default entries or a default list for a file that is not a directory, but in a recursion, found whatever memory there
+/// is; a resulting list that is not valid; that memory ran out, never if no list has more than eight entries,
 /// counted with what a setfacl(1) line puts into it, a mask, and copied base entries.
 pub fn apply(alloc: Global, node: &Node, edit: &Edit, in_recursion: bool) -> Result<Node, EditFault>
     ensures made { Gives (λ x. x) result (edits.edit node.now edit.now in_recursion) }
@@ -189,7 +189,7 @@ fn allowed(
 ///
 /// # Errors
 ///
-/// A default list for a file that is not a directory, but in a recursion, which takes no memory to find; that memory
+/// A default list for a file that is not a directory, but in a recursion, found whatever memory there is; that memory
 /// ran out, never if no list has more than eight entries.
 #[tactic(auto, unfolding(crate::specs::Edits::restore))]
 pub fn restore_node(

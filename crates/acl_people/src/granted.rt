@@ -103,8 +103,7 @@ fn put_named(row: &mut [Requests], users: &Subjects, label: &Label, mask: &Optio
     }
 }
 
-/// Writes the requests that the check of acl(5) grants each user on a file into `row`, in the order of the users. It
-/// looks up the users of the ids and groups that the label mentions, and no other user.
+/// Writes the requests that the check of acl(5) grants each user on a file into `row`, in the order of the users.
 pub fn granted_to_all(users: &Subjects, label: &Label, row: &mut [Requests])
     requires { length row.old ≡ length users.now }
     ensures { row.new ≡ map (λ u. rights u label.now) users.now }
@@ -140,7 +139,7 @@ fn granted_to_all_by_mode(users: &Subjects, label: &Label, row: &mut [Requests])
 }
 
 /// Writes the requests that Linux grants each user on a file ([`acl_entry::granted_by_linux`]) into `row`, in the order of
-/// the users. It looks up no other user than [`granted_to_all`] does.
+/// the users.
 pub fn granted_to_all_by_linux(users: &Subjects, label: &Label, row: &mut [Requests])
     requires { length row.old ≡ length users.now }
     ensures { row.new ≡ map (λ u. linux_rights u label.now) users.now }

@@ -1,4 +1,4 @@
--- What is true of these definitions. Each is proved as a law of src/laws.rt, whose comment has it in words.
+-- What is true of names, rows and entry texts. Each is proved as a law of src/laws.rt, whose comment has it in words.
 use Rattle.std.specs.Prelude.{◌≡◌, ◌↔◌, ℕ, List, [], Ok, Err, ◌<◌, false, length}
 use Rattle.acl_names.specs.Pieces.{pieces}
 use Rattle.acl_text.specs.Naming.{Naming}

@@ -11,7 +11,7 @@ use std::alloc::{AllocError, Global};
 /// One less than the most bodies that are kept.
 const MAX_BODIES: usize = 16384;
 
-/// The bytes of a dump for each place of the table.
+/// The bytes of a dump for each place of the table, nearly.
 const BYTES_PER_BODY: usize = 256;
 
 /// After this many misses in a row only one body in [`SAMPLING_INTERVAL`] is looked up.

@@ -1,4 +1,4 @@
-//! Laws of the definitions, each proved as the contract of a function that does nothing.
+//! Laws of names, rows and entry texts, each proved as the contract of a function that does nothing.
 
 ghost use Rattle.acl_text.specs.Laws.{PasswdRowsAreFirstOfTheirNames, GroupRowsAreFirstOfTheirNames, EntryMeansWhatIsRead, EntriesAreReadInOrder, PasswdFaultIsFirst, GroupFaultIsFirst, EntriesFaultIsFirst, EntryFaultIsLowest, PieceFaultIsLowest, PasswdLineFaultIsLowest, GroupLineFaultIsLowest};
 

@@ -1,4 +1,4 @@
--- Refusals that take no memory are passed on.
+-- Refusals that are found whatever memory there is are passed on.
 use Rattle.std.proofs.Common.{◌≡◌, ℕ, Bool, true, false, Option, Some, None, Result, Ok, Err, if◌then◌else◌, refl, sym, ap, ◌∙◌}
 use Rattle.std.specs.Prelude.{IfSome, IfErr}
 use Rattle.acl_people.specs.KnownPeople.{KnownPeople}
