@@ -33,8 +33,8 @@ pub record AreBefore (V : Verdict) (es : RowedPaths) (t : StagedState) : Type 0 
   pub goes : GoesFrom V (rows_at es) t
   pub are : es ≡ rowed V (persons goes.state.people) goes.state.tree.files
 
--- from these rows, those of the state after the line; with no more labels fetched than it may, and the verdicts along paths that
--- were found again: at least those that are other ones, and none that the line cannot change
+-- from these rows, those of the state after the line; with no more labels fetched than it may, and how many verdicts along
+-- paths may be new or other ones: at least those that are, and at most those that the line can change
 pub record IsAfter (V : Verdict) (old : RowedPaths) (t : StagedState) (new : NextRows) : Type 0 where
   pub rows : entries_in new.rows.rows ≡ rowed V (persons t.state.people) t.state.tree.files
   pub looked : new.looked ≤ most_looked t.user_change t.state.tree.files

@@ -34,7 +34,7 @@ SameRows V tops before after = outside tops (rows_of V (persons before.people) b
 abbrev pub Holds : (new old : List PathOf) → Files → Type 0
 Holds new old files = (p : PathOf) → is_outside new p ≡ true → (is_outside old p ≡ true) × (find path_cmp p files ≡ None)
 
--- outside a part nothing has changed by a line, and it holds the part from before the line
+-- a path is outside the part from before a line, and the line moves no user and changes no file there
 pub record IsKept (p : PathOf) (old : List PathOf) (staged : StagedState) : Type 0 where
   pub outside : is_outside old p ≡ true
   pub users : staged.user_change ≡ Unchanged

@@ -27,7 +27,7 @@ moves_asked (Removed user) fs = 0
 abbrev pub most_asked : StagedState → ℕ
 most_asked t = length t.changed * length t.state.people.users + moves_asked t.user_change t.state.tree.files
 
--- the most labels that are fetched as users move: as many as the lists of these groups have entries
+-- the most labels that are fetched as users move: for each of the groups as many as files mention it
 abbrev pub most_looked : UserChange → Files → ℕ
 most_looked Unchanged fs = 0
 most_looked Loaded fs = 0

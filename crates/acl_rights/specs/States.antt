@@ -16,7 +16,7 @@ from_start s = record { loaded = s; now = s }
 abbrev pub states_after : (loads : Bool) → States → (new : State) → States
 states_after loads w new = record { loaded = if loads then new else w.loaded; now = new }
 
--- the present state, and the one after the texts were loaded, where a line has changed the state since
+-- the present state, and the one after the texts were loaded, where that may be another one
 pub record StatePair : Type 0 where
   pub state : State
   pub loaded : Option State

@@ -32,7 +32,8 @@ pub record IsWhole (V : Verdict) (s : State) (t : VerdictTable) : Type 0 where
   pub files : t.files ≡ s.tree.files
   pub rows : t.rows ≡ rows_of V (persons s.people) s.tree.files
 
--- a staged table, how many labels were fetched for it, and how many verdicts along paths are new or other ones
+-- a staged table, how many labels were fetched for it, and how many verdicts along paths may be new or
+-- other ones
 pub record StagedTable : Type 0 where
   pub table : VerdictTable
   pub looked : ℕ

@@ -1,4 +1,4 @@
-//! Rows of verdicts by kinds after some files changed: each distinct label is judged once.
+//! Rows of verdicts by kinds after some files changed: each user is judged at most once for each of these.
 
 ghost use Rattle.std.specs.Prelude.{◌≡◌, ◌+◌, ◌*◌, ◌++◌, ◌<◌, ◌≤◌, ◌^◌, ℕ, Some, true, length, map, slice_get, IfOk, IfSome, OnOk};
 ghost use Rattle.path_map.specs.Entries.{IsInOrder, seen};
@@ -79,7 +79,7 @@ fn place_of<'a>(
     Ok(at)
 }
 
-/// Distinct labels, and for each path the place of its label; and places of labels by their hashes.
+/// Labels, mostly distinct, and for each path the place of its label; and places of labels by their hashes.
 #[derive(Drop)]
 struct LabelPlaces<'a> {
     labels: Vec<&'a Label>,
@@ -87,7 +87,7 @@ struct LabelPlaces<'a> {
     by_hash: BTreeMap<u64, usize>,
 }
 
-/// Lists the distinct labels of some paths, and for each path the place of its label.
+/// Lists the labels of some paths, each mostly once, and for each path the place of its label.
 fn places_of<'a>(
     alloc: Global,
     paths: &[(&'a Path, &'a Label)],
@@ -268,8 +268,8 @@ fn put_labels<'a, J: Judge>(
 
 impl KindRows {
     /// Returns the rows after some files got other labels and others are gone, and of how many files the answers
-    /// along their paths were found again. The judge gives one verdict per user for each distinct label that hints do not
-    /// find (more if hashes collide); the clause bounds that by the files.
+    /// along their paths may be new or other ones: at least those that are. The judge gives at most one verdict per user
+    /// for each changed file, and mostly one for each distinct label that hints do not find.
     fn with_labels<'a, J: Judge, W>(
         &self,
         alloc: Global,
@@ -310,8 +310,8 @@ impl KindRows {
     }
 
     /// Returns the rows of `with_labels`. If the root changed beside other files, it gets its label after these: so
-    /// files below it that did not change keep their path classes. The two counts may
-    /// have a file twice, so their sum is limited to the number of all files.
+    /// files below it that did not change may keep their path classes. The two counts may have a file twice, so
+    /// their sum is limited to the number of all files.
     pub fn with_files<'a, J: Judge, W>(
         &self,
         alloc: Global,

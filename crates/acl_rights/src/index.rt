@@ -74,8 +74,8 @@ impl<J> Model for Index<J> {
     ghost view = { λ a. a.table };
 }
 
-/// A whole new table, not yet in place. It has to be put in place by [`Index::commit`] or discarded by
-/// [`Rows::give_up`].
+/// A whole new table, not yet in place. It has to be taken by [`Index::of`] or put in place by [`Index::commit`], or
+/// discarded by [`Rows::give_up`].
 pub struct Rows {
     table: VerdictTable,
     looked: u64,
@@ -100,7 +100,7 @@ impl Rows {
         self.looked
     }
 
-    /// Returns how many verdicts along paths were found again.
+    /// Returns how many verdicts along paths may be new or other ones: at least those that are.
     pub fn refreshed(&self) -> u64
         ensures { result ≡ self.now.refreshed }
     {

@@ -147,7 +147,8 @@ impl<'a, J: Judge> Verdicts<'a, J> {
         }
     }
 
-    /// Returns all files by their classes: how many files have each, and the first of them.
+    /// Returns all files by their classes: how many files have each, which may be counted in parts, and the first of
+    /// them.
     pub fn counted_classes(
         &self,
         alloc: Global,
@@ -299,9 +300,8 @@ impl<J: Judge> IndexedStates<J> {
         drop(mem::replace(&mut self.changed, changed));
     }
 
-    /// Puts a prepared state with its index in place of the present one; if a load prepared it, it is the state after
-    /// the texts were loaded too. The index is made first: if memory runs out for it, the prepared state is
-    /// discarded, and all is as it was.
+    /// Puts a prepared state with its index in place of the present one; if the line `loads`, it is the state after
+    /// the texts were loaded too. If memory runs out, both states stay, and the prepared one is discarded.
     fn replace(
         &mut self,
         alloc: Global,

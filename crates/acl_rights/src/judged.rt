@@ -29,7 +29,7 @@ pub(crate) fn judged<J: Judge>(
     Cells::new(alloc, requests)
 }
 
-/// Judges one user again on a label, and returns its row if that verdict is another one.
+/// Judges one user again on a label, and returns its row, which may be an equal one; `None` if it stays.
 pub(crate) fn judged_again<J: Judge>(
     alloc: Global,
     judge: &mut J,

@@ -1,5 +1,5 @@
-//! Rows of labels after all files changed: as long as files that had one label have one label again, labels keep
-//! their numbers, and so do path classes.
+//! Rows of labels after many files changed: labels may keep their numbers, if files that had one label have one label
+//! again.
 
 ghost use Rattle.std.specs.Prelude.{◌≡◌, ◌<◌, true, None, Some, get_or, slice_set, length, option_map, IfOk, IfSome};
 ghost use Rattle.std.specs.Option.{option_copied};

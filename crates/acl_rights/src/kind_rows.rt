@@ -1,4 +1,5 @@
-//! Rows of verdicts by kinds: for each file its label with the verdicts of all users on it. Files of one kind share them.
+//! Rows of verdicts by kinds: for each file its label with the verdicts of all users on it. Files of one kind mostly
+//! share them.
 
 ghost use Rattle.std.specs.Prelude.{◌≡◌, ◌+◌, ◌*◌, ◌<◌, ◌≤◌, ◌^◌, true, false, length, count_by, filter, IfOk, OnOk, [], nat_lt, if◌then◌else◌};
 ghost use Rattle.std.specs.List.{remove};
@@ -32,7 +33,7 @@ pub struct KindRows {
 }
 
 /// The rows after a line, how many labels were fetched for it, and of how many files the answers along their paths
-/// were found again.
+/// may be new or other ones.
 #[derive(Drop)]
 pub(crate) struct UpdatedRows {
     pub rows: KindRows,
@@ -278,9 +279,8 @@ impl KindRows {
         Ok(KindRows { rows, hints })
     }
 
-    /// Judges a user again on the labels that mention one of `groups`, which the user joined or left: once for each
-    /// kind, which the clause bounds by the files. The rows of other labels are shared, and none of them is looked
-    /// at.
+    /// Judges a user again on the labels that mention one of `groups`, which the user joined or left: mostly once for
+    /// each kind, which the clause bounds by the files. Other labels keep their rows.
     pub fn with_user_updated<J: Judge>(
         &self,
         alloc: Global,

@@ -1,8 +1,8 @@
 //! The index of who may do what: the verdicts on all users and files, kept up to date line by line.
 //!
 //! One row is kept for each kind of files: the label that the files have, and for each user the requests that it grants. A
-//! file has the number of its kind, so a million files of twenty kinds have twenty rows. And a file has a path class, which
-//! says by whom all directories above can be searched (`path_classes`):
+//! file has the number of its kind, so a million files of twenty kinds mostly have twenty rows. And a file has a path class,
+//! which says by whom all directories above can be searched (`path_classes`):
 //!
 //! ```text
 //! path    number        number  label            joe  ann        group  numbers
@@ -13,22 +13,21 @@
 //!
 //! For each group the numbers of the rows whose label mentions it are kept, as pairs of numbers in one ordered set.
 //!
-//! - A line that changes files: each distinct label of a changed file that is not found by its hash is judged once for
-//!   all users (more often if hashes collide), and the changed files get the number of their new row. All other files
-//!   keep theirs. Groups are compared for the labels of the numbers that files got or lost, and the pairs that differ
-//!   are removed or put. The files at or below the changed ones get their path classes again. If the root changed
-//!   beside others, it gets its label last, which changes no other file's class.
-//! - If the root changed, and at least as many files as the tree has numbers of kinds, and an eighth of all, the rows are
-//!   found by these numbers: each is judged at most once, and not if a row of its label is known. Labels and path classes
-//!   keep their numbers if files that had one label have one label again; else all files get the tree's numbers, and
-//!   their path classes again.
+//! - A line that changes files: each distinct label of a changed file that is not found by its hash is mostly judged once
+//!   for all users, and the changed files get the number of their new row. All other files keep theirs. Groups are
+//!   compared for the labels of the numbers that files got or lost, and the pairs that differ are removed or put. The
+//!   files at or below the changed ones may get other path classes. If the root changed beside others, it gets its label
+//!   last, which mostly changes no other file's class.
+//! - If the root and many files changed, the rows may be found by the tree's numbers of kinds: each is judged at most once,
+//!   and mostly not if a row of its label is known. Labels and path classes may keep their numbers if files that had one
+//!   label have one label again; else all files get the tree's numbers, and their path classes again.
 //! - A membership: the groups' pairs give the rows whose label mentions one of them. For each of these the one user is
-//!   judged again; no other row is looked at. Path classes of these labels, and those below, are searched again.
+//!   judged again. Path classes of these labels, and those below one that changes, are searched again.
 //! - A new user adds a verdict to each row; a removed one takes it out.
 //! - A question on a file looks up its row, and along its path its path class too; one on all files walks over them in
 //!   path order.
 //! - A question on all users at once counts files by classes: files of a class have the same row, alone or along paths. So
-//!   each class is looked at once for all users.
+//!   each class is mostly looked at once for all users.
 //!
 //! A call whose only error is `AllocError` or `NoMemory` fails only if memory runs out, or if a number or a count would be
 //! too large. A function that returns no `Result` allocates nothing.

@@ -1,5 +1,5 @@
-//! Rows of verdicts by kinds after many files changed: one for each number of the files' map. Each distinct label is
-//! judged at most once, unless hashes collide.
+//! Rows of verdicts by kinds after many files changed: one for each number of the files' map that files have. Each
+//! number is judged at most once.
 
 ghost use Rattle.std.specs.Prelude.{◌≡◌, ◌+◌, ◌*◌, ◌++◌, ◌∷◌, ◌<◌, ◌≤◌, ◌^◌, [], true, length, IfOk, IfSome};
 ghost use Rattle.kinds.specs.Numbered.{entries_in};
@@ -162,10 +162,9 @@ impl KindRows {
         Ok((KindRows { rows, hints }, count))
     }
 
-    /// Returns the rows of a tree's files, given one for each number of the tree: the labels' own numbers stay if
-    /// files that had one label have one again, and else they are those of the tree. They stay only if `same` says
-    /// that the files are the same as before if they are as many. Counts also the files whose answers along their
-    /// paths may be others: all files, if labels get other numbers.
+    /// Returns the rows of a tree's files, given one for each number of the tree: the labels' own numbers may stay if
+    /// files that had one label have one again, and `same` says that the files are the same as before if they are as
+    /// many. Counts also the files whose answers along their paths may be new or other ones.
     fn with_rows_of(
         &self,
         alloc: Global,
@@ -195,11 +194,10 @@ impl KindRows {
         Ok((KindRows { rows, hints }, files.len()))
     }
 
-    /// Returns the rows of the files of a map by kinds. Labels and path classes keep their numbers if files that had
-    /// one label have one again, the files are as many as before and `same` says that they are the same then; else
-    /// rows share the map's paths, and path classes are found again for all files. Each number of the map is judged
-    /// at most once, and not if a row of its label is known. Counts also the files whose answers along their paths
-    /// were found again.
+    /// Returns the rows of the files of a map by kinds. Labels and path classes may keep their numbers if files that had
+    /// one label have one again, the files are as many as before and `same` says that they are the same then. Each
+    /// number of the map is judged at most once, and mostly not if a row of its label is known. Counts also the files
+    /// whose answers along their paths may be new or other ones.
     pub fn of_kinds<J: Judge>(
         &self,
         alloc: Global,

@@ -1,6 +1,6 @@
 //! What an index answers: who may do what, with and without search along the files' paths.
 //!
-//! The first clause of a call is of the table, and the second says what that means of a state.
+//! The first clause of a call is of the table; if there is a second, it says what that means of a state.
 
 ghost use Rattle.std.specs.Prelude.{◌≡◌, [], map, slice_get, IfOk};
 ghost use Rattle.std.specs.Option.{option_copied};
@@ -136,7 +136,8 @@ impl<J: Judge> Index<J> {
         now.rows.rows.file_classes(alloc, along)
     }
 
-    /// Returns all files by their classes: how many files have each, and the first of them.
+    /// Returns all files by their classes: how many files have each, which may be counted in parts, and the first of
+    /// them.
     pub fn counted_classes(
         &self,
         alloc: Global,

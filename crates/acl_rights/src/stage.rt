@@ -23,7 +23,8 @@ use acl_tree::{Differences, GroupIds, Staged, UserChange};
 use kinds::KindMap;
 use std::alloc::{AllocError, Global};
 
-/// The rows after a line, how many labels were fetched for it, and how many verdicts along paths were found again.
+/// The rows after a line, how many labels were fetched for it, and how many verdicts along paths may be new or other
+/// ones.
 #[derive(Drop)]
 pub(crate) struct NextRows {
     pub rows: KindRows,
@@ -77,7 +78,7 @@ fn begin_at_root(files: Differences<'_>) -> bool
 }
 
 /// Puts the rows of files that changed, and removes those of files that are gone; and counts the files whose answers
-/// along their paths were found again.
+/// along their paths may be new or other ones.
 fn with_changed<J: Judge>(
     alloc: Global,
     judge: &mut J,
@@ -102,9 +103,9 @@ fn with_changed<J: Judge>(
     Ok(new)
 }
 
-/// Returns from how many changed files on the rows of all files are found again: as many as the tree has numbers of
-/// kinds, so that no more is judged; and an eighth of all files, which are not counted one by one if it is likely
-/// that as many changed.
+/// Returns from how many changed files on the rows of all files are made by the tree's numbers of kinds: at least as
+/// many as there are numbers, so that no more is judged; and an eighth of all files, which are not counted one by one if
+/// it is likely that as many changed.
 fn many_of(staged: &Staged, files: &KindMap<Node>) -> usize
     requires { length (entries_in files.now) < 2 ^ 64 }
     ensures { length files.now.0.0 ≤ result }
@@ -148,7 +149,8 @@ fn changed_rows<J: Judge>(
     }
 }
 
-/// Returns the rows after a line that changes files and no user, and how many verdicts along paths were found again.
+/// Returns the rows after a line that changes files and no user, and how many verdicts along paths may be new or other
+/// ones.
 fn after_files<J: Judge>(
     alloc: Global,
     judge: &mut J,

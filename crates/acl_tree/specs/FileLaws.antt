@@ -1,4 +1,4 @@
--- What is true of these definitions. It is proved as a law of src/laws.rt, whose comment has it in words.
+-- What is true of these definitions. It is proved as a law of src/file_laws.rt, whose comment has it in words.
 use Rattle.std.specs.Prelude.{◌≡◌, List}
 use Rattle.std.specs.FinMap.{find}
 use Rattle.acl_names.specs.Paths.{path_cmp, PathOf}

@@ -1,5 +1,4 @@
--- For inner functions and their callers' proofs. Of public contracts that of `FoundFile::before` alone names one of these
--- definitions.
+-- For inner functions and their callers' proofs. Few public contracts name one of these definitions.
 use Rattle.std.specs.Prelude.{◌≡◌, ◌≢◌, ⊤, ℕ, List, Option, Some, None, map, [], ◌∷◌, ◌++◌, Bool, true, false, Result, Ok, Err}
 use Rattle.std.specs.Coded.{Coded, coded×, coded_ℕ, coded_list}
 use Rattle.std.specs.FinMap.{find}

@@ -59,7 +59,8 @@ users_move s (Usermod user group) = change_moves s.people (usermod.usermod user 
 users_move s (Useradd new) = Added
 users_move s (Userdel user) = user_left (userdel.userdel user s.people)
 
--- whether a command names a path: as an operand, below one with recursion, by a record, or as its new file
+-- whether a command names a path: as an operand, below one with recursion, by a record, or as its new file; a load of a dump
+-- names every path
 abbrev pub names : Command → PathOf → Bool
 names (Load which bytes) p = load.load_names which
 names (Chmod paths mode recursive) p = is_file recursive paths p

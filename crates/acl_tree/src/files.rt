@@ -44,8 +44,8 @@ impl<'a> FilesFinder<'a> {
     }
 }
 
-/// The files that a dump recorded, in path order, and whether a dump was loaded. Copies and later states share the
-/// files that are the same. What is always true of them is the clause of [`Files::soundness_law`].
+/// The recorded files, in path order, and whether a dump was loaded. Copies and later states may share the files that
+/// are the same. What is always true of them is the clause of [`Files::soundness_law`].
 #[derive(Drop)]
 pub struct Files {
     files: KindMap<Node>,

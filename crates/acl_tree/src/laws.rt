@@ -12,7 +12,8 @@ pub fn each_file_is_edited()
 {}
 
 /// Proof only: what a command does not name stays as it is: at a path that is no operand, is not below one with
-/// recursion, is of no record and is not the new file's, the same node is recorded as before, or none as before.
+/// recursion, is of no record and is not the new file's, the same node is recorded as before, or none as before. A
+/// load of a dump names every path.
 pub fn unnamed_files_stay()
     ensures { UnnamedFilesStay }
 {}

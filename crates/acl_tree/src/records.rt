@@ -45,7 +45,8 @@ pub fn without_files(
     files.without_all(alloc, &entries)
 }
 
-/// Returns the kind of a recorded file: a directory if a file is below it, or its record has a default list.
+/// Returns the kind of a recorded file: a directory if it is the root or is written with a final `/`, if a file is
+/// below it, or if its record has a default list.
 fn kind_of(has_below: bool, entry: &DumpRecord) -> Kind
     ensures { result ≡ (node_of has_below entry.now).kind }
 {

@@ -24,8 +24,8 @@ use acl_people::People;
 use std::alloc::Global;
 use std::marker::Model;
 
-/// The files that a dump recorded, in path order. Copies and later trees share the files that are the same. What is
-/// true of every tree is the clause of [`Tree::soundness_law`].
+/// The recorded files, in path order. Copies and later trees may share the files that are the same. What is true of
+/// every tree is the clause of [`Tree::soundness_law`].
 #[derive(Drop)]
 pub struct Tree {
     files: Files,

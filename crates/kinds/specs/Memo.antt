@@ -1,5 +1,5 @@
--- Edits of nodes by their numbers: what an edit makes of a number is computed once. For inner functions; of public contracts
--- those of `KindMap::edited` and `KindMap::edited_all` name `edit_each`.
+-- Edits of nodes by their numbers, with a memo of the numbers that were edited. Few public contracts name one of these
+-- definitions.
 use Rattle.std.specs.Prelude.{◌≡◌, ℕ, ◌+◌, ◌-◌, ◌<◌, ◌≤◌, ◌==◌, ◌||◌, Bool, false, if◌then◌else◌, List, [], ◌∷◌, ◌++◌, length, get_or, slice_set, Option, Some, Result, Ok, Err}
 use Rattle.std.specs.List.{AllByRecursion}
 use Rattle.acl_names.specs.Paths.{PathOf}

@@ -21,7 +21,7 @@ one_where test x = if test x then 1 else 0
 abbrev pub changed_where : {N : Type 0} → (N → Bool) → (N → N) → N → N
 changed_where test f x = if test x then f x else x
 
--- ---- by numbers; for inner functions
+-- ---- by numbers
 
 -- what a node becomes, if at least one path has it
 abbrev pub renewed_if : {N M : Type 0} → (N → M) → Option N → ℕ → Option M

@@ -63,7 +63,7 @@ pub record ChangesEach {N : Type 0} (f : N → N) (done : List ℕ) (old new : K
   pub nodes : (n : ℕ) → node_at new n ≡ (if is_one n done then option_map f (node_at old n) else node_at old n)
   pub counts : (n : ℕ) → count_at new n ≡ count_at old n
 
--- the numbers of the nodes that became others, each one of some numbers
+-- the numbers of the nodes that may have become others, each one of some numbers
 pub record AreNoted {N : Type 0} (done : List ℕ) (old new : KindsOf N) (noted : List ℕ) : Type 0 where
   pub among : (n : ℕ) → is_one n noted ≡ true → is_one n done ≡ true
   pub same : (n : ℕ) → is_one n noted ≡ false → node_at new n ≡ node_at old n

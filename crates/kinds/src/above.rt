@@ -9,7 +9,7 @@ use crate::map::KindMap;
 use acl_names::Path;
 
 impl<N> KindMap<N> {
-    /// Returns the entry of the nearest ancestor of a path, if there is one: a search for each entry between.
+    /// Returns the entry of the nearest ancestor of a path, if there is one.
     pub fn nearest_above(&self, path: &Path) -> Option<(&Path, &N)>
         ensures { option_map borrowed result ≡ nearest_above path.now (entries_in self.now) }
     {

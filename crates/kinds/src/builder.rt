@@ -1,4 +1,4 @@
-//! Builds a map from entries in path order: equal nodes get one number.
+//! Builds a map from entries in path order: equal nodes mostly get one number.
 
 ghost use Rattle.std.specs.Prelude.{◌≡◌, ◌++◌, ◌∷◌, [], IfOk};
 ghost use Rattle.path_map.specs.Entries.{IsInOrder};

@@ -19,7 +19,7 @@ pub trait NodeChange<N, S> {
     /// What was counted.
     ghost counted: { S → ℕ };
 
-    /// Returns what a node becomes, if that is another node.
+    /// Returns what a node becomes, which may be an equal one; `None` if it stays.
     fn change(&self, alloc: Global, state: &mut S, node: &N) -> Result<Option<N>, AllocError>
         requires room { counted state.old + 1 < 2 ^ 64 }
         ensures node { IfOk result (λ new. option_map_or (λ x. x) new node.now ≡ changed self.now node.now) }
@@ -27,7 +27,7 @@ pub trait NodeChange<N, S> {
 }
 
 impl<N: Drop> Kinds<N> {
-    /// Returns the slot of a number with what its node becomes, if that is another node.
+    /// Returns the slot of a number with what its node becomes, which may be an equal one; `None` if it stays.
     fn changed_slot<S, C: NodeChange<N, S>>(
         &self,
         alloc: Global,
@@ -55,7 +55,7 @@ impl<N: Drop> Kinds<N> {
         }))
     }
 
-    /// Changes the slot of a number, if its node becomes another one: then the number is added to `changed`. All
+    /// Changes the slot of a number, if its node may become another one: then the number is added to `changed`. All
     /// other slots are shared.
     fn slots_changed<S, C: NodeChange<N, S>>(
         &self,
@@ -82,8 +82,7 @@ impl<N: Drop> Kinds<N> {
         Ok(slots)
     }
 
-    /// Changes the nodes of `numbers`, and returns the numbers of the nodes that became others; the slots of all
-    /// others are shared.
+    /// Changes the nodes of `numbers`, and returns the numbers of the nodes that may have become others.
     pub(crate) fn changed_at<S, C: NodeChange<N, S>>(
         &self,
         alloc: Global,
@@ -107,8 +106,8 @@ impl<N: Drop> Kinds<N> {
 }
 
 impl<N: Drop> KindMap<N> {
-    /// Changes the nodes of `numbers`, and returns the numbers of the nodes that became others. Both maps share the
-    /// paths, their numbers and all other nodes.
+    /// Changes the nodes of `numbers`, and returns the numbers of the nodes that may have become others. Both maps share
+    /// the paths, their numbers and all other nodes.
     pub(crate) fn changed_at<S, C: NodeChange<N, S>>(
         &self,
         alloc: Global,

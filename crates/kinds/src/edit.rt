@@ -138,7 +138,7 @@ struct EditedNumbers<'a, N> {
     puts: Vec<(&'a Path, usize)>,
 }
 
-/// Edits entries, each of their numbers once; or returns the first fault.
+/// Edits entries, each of their numbers mostly once; or returns the first fault.
 fn edit_entries<'a, N: Drop, E: KindEdit<N>>(
     alloc: Global,
     kinds: Kinds<N>,
@@ -202,8 +202,8 @@ fn edit_nodes<N: Drop, E: KindEdit<N>>(
 }
 
 impl<N: Drop> KindMap<N> {
-    /// Edits each entry, or returns the fault of one of them: paths keep their numbers, which get other nodes. Each
-    /// number is edited once, and no path is read. This map stays as it is.
+    /// Edits each entry, or returns the fault of one of them: paths keep their numbers, which get what the
+    /// edit makes of their nodes. This map stays as it is.
     pub fn edited_all<E: KindEdit<N>>(
         &self,
         alloc: Global,
@@ -222,7 +222,7 @@ impl<N: Drop> KindMap<N> {
 
 impl<N: Drop> KindMap<N> {
     /// Edits some entries, and returns these too; or the fault of the first for which the edit fails, with its path.
-    /// This map stays as it is, and both share all paths. Each number is edited once.
+    /// This map stays as it is, and both may share paths. Each number is mostly edited once.
     pub fn edited<'a, E: KindEdit<N>>(
         &self,
         alloc: Global,

@@ -1,6 +1,6 @@
-//! A persistent map from paths to nodes that keeps what many paths have in common once: for each path a number, and
-//! for each number a node with the count of its paths. A map and its copies share what did not change. A map with
-//! tags also keeps, for each tag, the numbers of the nodes that have it.
+//! A persistent map from paths to nodes that mostly keeps once what many paths have in common: for each path a number,
+//! and for each number a node with the count of its paths. A map and its copies may share what did not change. A map
+//! with tags also keeps, for each tag, the numbers of the nodes that have it.
 //!
 //! A call whose only error is `AllocError` fails only if memory runs out, or if a number or a count of paths would be
 //! too large. A function that returns no `Result` gives its result whatever memory there is.

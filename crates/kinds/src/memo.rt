@@ -1,4 +1,4 @@
-//! The memo of an edit: each number is edited once.
+//! The memo of an edit: the numbers that were edited, with their results.
 
 ghost use Rattle.std.specs.Prelude.{◌≡◌, true, ◌+◌, ◌<◌, ◌++◌, ◌∷◌, [], IfOk, IfSome, OnOk, length, get_or, slice_set};
 ghost use Rattle.std.specs.List.{AllByRecursion};

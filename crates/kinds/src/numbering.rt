@@ -1,4 +1,4 @@
-//! Numbers nodes that come one after another: equal nodes get one number.
+//! Numbers nodes that come one after another: equal nodes mostly get one number.
 
 ghost use Rattle.std.specs.Prelude.{◌≡◌, ◌<◌, true, Some, IfOk, IfSome};
 ghost use Rattle.kinds.specs.Kinds.{node_at, IsNode, Grants};
@@ -223,8 +223,8 @@ impl<N> Numbering<N> {
 }
 
 impl<N: Drop> Numbering<N> {
-    /// Numbers the node of a further path: an equal node that was numbered before, or else a new one, to which the
-    /// node is moved.
+    /// Numbers the node of a further path: as an equal node that was numbered before, if one is found; or else anew,
+    /// and the node is moved.
     pub(crate) fn give<L: Likeness<N>>(
         self,
         alloc: Global,
@@ -250,8 +250,8 @@ impl<N: Drop> Numbering<N> {
         })
     }
 
-    /// Numbers a node, without a path: an equal node that was numbered before, or else a new one, to which the node
-    /// is moved.
+    /// Numbers a node, without a path: as an equal node that was numbered before, if one is found; or else anew, and
+    /// the node is moved.
     pub(crate) fn number<L: Likeness<N>>(
         self,
         alloc: Global,

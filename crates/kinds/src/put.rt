@@ -1,4 +1,4 @@
-//! Puts entries among those of a map: equal new nodes get one number.
+//! Puts entries among those of a map: equal new nodes mostly get one number.
 
 ghost use Rattle.std.specs.Prelude.{◌≡◌, ◌<◌, ◌++◌, ◌∷◌, [], ℕ, Some, true, false, is_some, map, IfOk};
 ghost use Rattle.std.specs.List.{AllByRecursion};

@@ -317,8 +317,7 @@ impl<N: Tagged + Drop> TaggedMap<N> {
     }
 
     /// Changes the nodes that have one of `tags`, which keep their tags. Returns also how many nodes were fetched for
-    /// that, and the numbers of those that became others, rising. All other nodes are shared, and none without one of
-    /// the tags is looked at.
+    /// that, and the numbers of those that may have become others, rising. All other nodes stay.
     pub fn with_tagged<S, C: NodeChange<N, S>>(
         &self,
         alloc: Global,

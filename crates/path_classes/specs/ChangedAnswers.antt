@@ -30,7 +30,7 @@ pub record SameReach (old : KindsOf LabelRow) (before : ClassKinds) (new : Kinds
 abbrev pub HadSameReach : KindsOf LabelRow → ClassKinds → KindsOf LabelRow → ClassKinds → Option ℕ → ℕ → Type 0
 HadSameReach old before new after was n = (m : ℕ) × ((was ≡ Some m) × SameReach old before new after m n)
 
--- what was found for two classes is true
+-- where the files of two classes were found to have the same answers, they have
 abbrev pub IsTrueFor : KindsOf LabelRow → ClassKinds → KindsOf LabelRow → ClassKinds → (was is : ℕ) → Bool → Type 0
 IsTrueFor old before new after was is same = same ≡ true → SameReach old before new after was is
 

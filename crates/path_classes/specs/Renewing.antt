@@ -78,7 +78,7 @@ pub record RenewsOne (rows : KindsOf LabelRow) (before old : ClassKinds) (n : �
   pub noted : (m : ℕ) → is_one m more_changed ≡ true → is_one m (n ∷ changed) ≡ true
   pub awaits : (rest : List ℕ) → Awaits rows before old (n ∷ rest) changed → Awaits rows before new (rest ++ below) more_changed
 
--- a class with who can search down to it made again: others than before
+-- a class with who can search down to it made again
 pub record IsAgain (rows : KindsOf LabelRow) (k : ClassKinds) (n : ℕ) (x : PathClass) : Type 0 where
   pub class : PathClass
   pub is : node_at k n ≡ Some class

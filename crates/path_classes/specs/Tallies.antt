@@ -1,4 +1,4 @@
--- Counts of files by keys: for each key how many files have it, and which is the first of them.
+-- Counts of files by keys: together those of a key say how many files have it, and the first of them which file is first.
 use Rattle.std.specs.Prelude.{◌≡◌, ◌+◌, ℕ, Bool, List, [], ◌∷◌, map, Option, Some, option_map, if◌then◌else◌}
 use Rattle.std.specs.List.{AllByRecursion, find}
 use Rattle.acl_names.specs.Paths.{PathOf}

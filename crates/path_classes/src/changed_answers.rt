@@ -1,4 +1,4 @@
-//! How many files may have other answers along their paths, after their classes were found again.
+//! How many files may have other answers along their paths, after their classes may have become others.
 
 ghost use Rattle.std.specs.Prelude.{◌≡◌, ◌<◌, ◌≤◌, ℕ, suc, Some, None, true, length, map, IfOk, OnOk, IfSome, if◌then◌else◌};
 ghost use Rattle.std.specs.Option.{option_copied};
@@ -159,8 +159,8 @@ impl Comparisons {
         }
     }
 
-    /// Tells whether files of the class `was` before have the same answers as files of the class `is` now: pairs of
-    /// classes are compared once.
+    /// Tells whether files of the class `was` before are found to have the same answers as files of the class `is` now.
+    /// A pair of classes is mostly compared once.
     fn are_same(
         &mut self,
         before: &StateClasses<'_, '_>,
@@ -215,8 +215,7 @@ fn count_unless(count: usize, is_same: bool) -> usize
     if is_same { count } else { count + 1 }
 }
 
-/// Counts the files that may have other answers than before: those that had no class, and those whose class before
-/// has other answers than their class now.
+/// Counts the files that may have other answers than before: at least those that have.
 pub(crate) fn changed_answers(
     alloc: Global,
     rows: &BothRows<'_, '_>,

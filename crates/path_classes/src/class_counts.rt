@@ -1,5 +1,5 @@
-//! Counts files by classes: the counts of the classes say how many files have each, so the walk over the files ends
-//! as soon as each class was seen.
+//! Counts files by classes: the counts of the classes say how many files have each, so the walk over the files may
+//! end as soon as each class was seen.
 
 ghost use Rattle.std.specs.Prelude.{◌≡◌, ◌<◌, ◌≤◌, ◌∷◌, [], ℕ, None, Some, map, slice_get, option_map, IfOk, OnOk, IfSome};
 ghost use Rattle.std.specs.List.{AllByRecursion};
@@ -19,10 +19,10 @@ use crate::path_class::ClassNumber;
 use acl_names::Path;
 use std::alloc::{AllocError, Global};
 
-/// The files of a class.
+/// Files of a class, which may have more than one of these.
 #[derive(Clone, Copy)]
 pub struct ClassFiles<'a> {
-    /// The number of the class.
+    /// The number of the class: the place of its row.
     pub class: ClassNumber,
     /// How many files there are.
     pub count: usize,
@@ -79,7 +79,7 @@ fn next_file<'a>(files: &NumberedFiles<'a>, unmet: usize, end: usize) -> Option<
     if unmet < end { files.first() } else { None }
 }
 
-/// Returns all files by their classes. Walks over files until each number below `end` was seen.
+/// Counts all files by their classes. The walk may end as soon as each number below `end` was seen.
 fn meet_all<'a>(
     alloc: Global,
     files: &mut NumberedFiles<'a>,
@@ -104,7 +104,8 @@ fn meet_all<'a>(
 }
 
 impl ClassedRows {
-    /// Returns all files by their classes: how many files have each, and the first of them.
+    /// Returns all files by their classes: how many files have each, which may be counted in parts, and the first of
+    /// them.
     pub fn counted_classes(
         &self,
         alloc: Global,

@@ -20,7 +20,7 @@ use kinds::TaggedMap;
 use std::alloc::{AllocError, Global};
 use std::marker::Model;
 
-/// The rows of files, and the path classes of these files. To a contract it is the rows, which determine the classes.
+/// The rows of files, and path classes of these files that fit the rows. To a contract it is the rows.
 #[derive(Drop)]
 pub struct ClassedRows {
     rows: TaggedMap<LabelRow>,
@@ -84,8 +84,9 @@ impl ClassedRows {
         &self.classes
     }
 
-    /// Replaces the rows of the same files, whose labels keep their numbers: only those of `labels`, which rise, have
-    /// other rows. Returns also how many files' answers along their paths were found again.
+    /// Replaces the rows of the same files, whose labels keep their numbers: only those of `labels`, which rise, may
+    /// have other verdicts. Returns also how many files' answers along their paths may be others: at least those that
+    /// are.
     pub fn with_rows(
         &self,
         alloc: Global,
@@ -120,8 +121,8 @@ impl ClassedRows {
         Ok(ClassedRows { rows, classes })
     }
 
-    /// Returns the rows of `with_all_rows`, and how many files have labels with other verdicts, or lie right below a
-    /// class to which others can search.
+    /// Returns the rows of `with_all_rows`, and how many files' answers along their paths may be others: at least those
+    /// that are.
     pub fn with_counted_rows(
         &self,
         alloc: Global,
@@ -141,7 +142,7 @@ impl ClassedRows {
 
     /// Returns the rows after some files got other labels, or are new, and others are gone: the paths of both are in
     /// path order. All other files keep their labels' numbers. Returns also how many files' answers along their paths
-    /// were found again.
+    /// may be others: at least those that are.
     pub fn with_files<V, W>(
         &self,
         alloc: Global,

@@ -14,16 +14,15 @@
 //! b/g    2       2
 //! ```
 //!
-//! So a user may do with `b/g` along its path what the row of label 2 grants, if class 1 has the user; else nothing. That is two
-//! look-ups, whatever the depth.
+//! So a user may do with `b/g` along its path what the row of label 2 grants, if class 1 has the user; else nothing.
 //!
 //! - If a directory alone has its class, it gets another label in place: nothing below it moves. Below one that shares its
 //!   class each file gets the class of its label and of the class above, which may be one that files elsewhere have.
 //! - If rows change, the classes of their labels are renewed: who can search is found again for each, and for those right
 //!   below one that changes. Classes are found by tags: the class above, a hash of this and their label, and the label of
-//!   those that say who can search. If all rows change, each class is searched again once, after the one above it.
-//! - How many files' answers were found again: after rows changed the sum of the counts of classes; after files changed
-//!   these are compared one by one.
+//!   those that say who can search. If all rows change, each class is mostly searched again once, after the one above it.
+//! - How many files' answers may be others is counted too, at least those that are: after rows changed by the counts of
+//!   classes, after files changed mostly one by one.
 //!
 //! A call whose only error is `AllocError` fails only if memory runs out, or if a number or a count would be too large. A
 //! function that returns no `Result` allocates nothing.

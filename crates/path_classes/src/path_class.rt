@@ -3,7 +3,7 @@
 use crate::searchers::Searchers;
 use kinds::KindNumber;
 
-/// The number of a path class: its place among all classes.
+/// The number of a class.
 pub type ClassNumber = usize;
 
 /// What files have in common that have one label, and whose nearest recorded directories above are of one class.

@@ -17,7 +17,7 @@ use kinds::{KindMap, KindNumber, Kinds, TaggedMap};
 use std::alloc::{AllocError, Global};
 use std::rc::Rc;
 
-/// The classes after who can search was found again, and the numbers of those that changed.
+/// The classes after who can search was found again, and the numbers of those that may have changed.
 #[derive(Drop)]
 pub(crate) struct RenewedSearches {
     pub(crate) classes: Kinds<PathClass>,
@@ -47,7 +47,7 @@ fn searchers_of(
     Ok(search)
 }
 
-/// Finds again who can search down to a class, if the class keeps that; `None` if the same users can.
+/// Finds again who can search down to a class, which may be the same users; `None` if what the class keeps is right.
 pub(crate) fn searched_again(
     alloc: Global,
     rows: &Kinds<LabelRow>,
@@ -75,7 +75,7 @@ pub(crate) fn searched_again(
     }))
 }
 
-/// Finds again who can search down to the class of a number; if others can, the classes right below it wait.
+/// Finds again who can search down to the class of a number; if others may, the classes right below it wait.
 fn renew_one(
     rows: &Kinds<LabelRow>,
     before: &TaggedMap<PathClass>,
@@ -128,7 +128,7 @@ pub(crate) fn renewed_searches(
     Ok(RenewedSearches { classes, changed })
 }
 
-/// Returns the classes of the same paths, to some of which other users can search.
+/// Returns the classes of the same paths, to some of which other users may search.
 pub(crate) fn with_searches(
     alloc: Global,
     before: &TaggedMap<PathClass>,
@@ -144,8 +144,8 @@ pub(crate) fn with_searches(
     Ok(new)
 }
 
-/// Returns the classes of the same paths after some rows changed, and the numbers of the classes that changed: who
-/// can search is found again for the classes that wait, which are all those of the labels whose rows changed.
+/// Returns the classes of the same paths after some rows changed, and the numbers of the classes that may have
+/// changed: who can search is found again for the classes that wait; all others fit the rows.
 pub(crate) fn renewed_classes(
     alloc: Global,
     rows: &KindMap<LabelRow>,
@@ -211,7 +211,7 @@ fn with_kind(
 }
 
 /// Returns the classes of the same paths after those of one class got another label: its number stays, and nothing
-/// below moves. Returns also the numbers of the classes to which others can search now.
+/// below moves. Returns also the numbers of the classes to which others may search now.
 pub(crate) fn relabelled_classes(
     alloc: Global,
     rows: &KindMap<LabelRow>,

@@ -146,7 +146,7 @@ pub(crate) fn paths_below(
 }
 
 /// Returns the classes of the same paths after the verdicts on `labels`, which rise, changed. Counts also the files
-/// that have one of these labels, or are right below a class to which others can search now: all others have the
+/// that have one of these labels, or are right below a class to which others may search now: all others have the
 /// answers that they had. Classes are looked at by their tags alone.
 pub(crate) fn rerowed_classes(
     alloc: Global,

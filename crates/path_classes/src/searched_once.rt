@@ -1,4 +1,4 @@
-//! Who can search down to classes after all rows may have changed: each class is searched again once, after the one
+//! Who can search down to classes after all rows may have changed: each class is mostly searched again once, after the one
 //! above it.
 
 ghost use Rattle.std.specs.Prelude.{◌≡◌, get_or, false, IfOk, IfSome, OnOk};
