@@ -30,7 +30,7 @@
 //!   each class is mostly looked at once for all users.
 //!
 //! A call whose only error is `AllocError` or `NoMemory` fails only if memory runs out, or if a number or a count would be
-//! too large. A function that returns no `Result` allocates nothing.
+//! too large. A function that returns no `Result` gives its result whatever memory there is.
 #![tactic(auto)]
 
 mod changed_part;

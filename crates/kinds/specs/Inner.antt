@@ -1,4 +1,4 @@
--- For inner functions. Of public contracts that of `KindMap::edited` alone names one of these definitions.
+-- For inner functions. Few public contracts name one of these definitions.
 use Rattle.std.specs.Prelude.{◌≡◌, ◌<◌, ◌≤◌, ℕ, ◌+◌, ◌-◌, ◌==◌, if◌then◌else◌, List, [], ◌∷◌, map, Option, Some, None}
 use Rattle.std.specs.List.{AllByRecursion}
 use Rattle.std.specs.FinMap.{find}

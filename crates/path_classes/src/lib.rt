@@ -25,7 +25,7 @@
 //!   classes, after files changed mostly one by one.
 //!
 //! A call whose only error is `AllocError` fails only if memory runs out, or if a number or a count would be too large. A
-//! function that returns no `Result` allocates nothing.
+//! function that returns no `Result` gives its result whatever memory there is.
 #![tactic(auto)]
 
 mod answers;

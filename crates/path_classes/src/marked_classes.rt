@@ -110,7 +110,7 @@ impl KindTest<PathClass> for MarkedClasses<'_> {
     }
 }
 
-/// Counts the files that have a label with other verdicts, or are right below a class to which others can search, if
+/// Counts the files that have a label with other verdicts, or are right below a class to which others may search, if
 /// paths keep the numbers of their labels and classes: all others have the answers that they had.
 pub(crate) fn changed_count(
     alloc: Global,

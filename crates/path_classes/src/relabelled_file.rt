@@ -39,7 +39,7 @@ fn own_class(
 }
 
 /// Returns the classes after one file got another label, and how many files may have other answers by that: the file,
-/// and those right below a class to which others can search now. `None` if the file was not there, if other files
+/// and those right below a class to which others may search now. `None` if the file was not there, if other files
 /// have its class, or if nothing lies right below it.
 pub(crate) fn relabelled_file(
     alloc: Global,
