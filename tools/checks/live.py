@@ -3,7 +3,7 @@
 usage: tools/check.py live [--PART N].. [--seed N] [--folder DIR] [--record] PROGRAM
 
 It makes a folder of its own, and removes it; users and groups are those of files of its own, so that no account is
-made. It needs the packages acl, strace, e2fsprogs and libcap2-bin. --help prints its parts.
+made. It needs the packages acl, strace, e2fsprogs, btrfs-progs and libcap2-bin. --help prints its parts.
 
 The exit status is 1 where something is not as it has to be, 2 where the words are others, a tool is not installed or it
 is not run as root.
@@ -47,7 +47,7 @@ CHANGES = {
 class Ways(Check):
     """There and back again, and what can come in between."""
 
-    tools = [*Check.tools, "setcap", "chattr", "mkfs.ext4", "prlimit", "mount"]
+    tools = [*Check.tools, "setcap", "chattr", "mkfs.ext4", "mkfs.btrfs", "prlimit", "mount"]
     parts = {"plans": 200, "kills": 3, "moments": 50, "signals": 20, "faults": 3, "disks": 2, "hands": 30,
              "capabilities": 1, "owners": 10, "chains": 1, "large": 1}
 
@@ -236,12 +236,13 @@ class Ways(Check):
         self.count(f"calls that fail, status {done.status}{' of --undo' * len(options)}")
 
     def check_disks(self, seed: int) -> None:
-        """Full, read-only and small disks, files that nobody may change, overlays."""
+        """Full, read-only and small disks, quotas, files that nobody may change, overlays."""
         tree = self.small_plan(seed)
         for what in (self.full_disk, self.read_only, self.nobody_may):  # The tree stays as it was.
             what(tree)
             self.expect_back(tree)
         self.too_large()
+        self.quota()
         self.overlay(tree)
 
     def full_disk(self, tree: Tree) -> None:
@@ -301,6 +302,28 @@ class Ways(Check):
             expect(self.planned(small, text), "no plan of a large list")
             must(self.apply(), 1, said=b": No space left on device")
             self.expect_back(small)
+
+    def quota(self) -> None:
+        """Files on a subvolume of btrfs that may not grow any more: all is as before. With room the plan is applied."""
+        image, disk = self.name("btrfs.image"), self.name("btrfs")
+        place, filled = os.path.join(disk, b"held"), os.path.join(disk, b"held", b"filled")
+        make(image)
+        os.truncate(image, 256 << 20)
+        must(run([b"mkfs.btrfs", b"-q", image]), 0)
+        with mounted(disk, b"-o", b"loop", image):
+            for words in ([b"quota", b"enable", disk], [b"subvolume", b"create", place], [b"qgroup", b"limit", b"2M", place]):
+                must(run([b"btrfs", *words]), 0)
+            tree = Tree.of(make(os.path.join(place, b"tree/"), 0o755), [b"%d" % number for number in range(40)])
+            many = b",".join(b"u:%d:r" % (80000 + number) for number in range(180))
+            expect(self.planned(tree, b"setfacl -R -m %s %s\n" % (many, word(tree.top))), "no plan of large lists")
+            run([b"dd", b"if=/dev/zero", b"bs=4k", b"of=" + filled])
+            os.sync()
+            must(self.apply(), 1, said=b": Disk quota exceeded")
+            self.expect_back(tree)
+            os.unlink(filled)
+            must(run([b"btrfs", b"qgroup", b"limit", b"none", place]), 0)
+            must(self.apply(), 0)
+            self.undo(tree)
 
     def overlay(self, tree: Tree) -> None:
         """Files of a lower layer, copied when they are first changed: there and back; one of two names is refused."""

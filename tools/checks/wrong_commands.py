@@ -11,6 +11,7 @@ not installed, is left out too. The exit status is 1 where one failed, or the te
 """
 from __future__ import annotations
 
+import argparse
 import glob
 import os
 import re
@@ -90,7 +91,9 @@ def to_try(commands: str, edits: List[WrongEdit]) -> Iterator[WrongEdit]:
 
 
 def main() -> int:
-    edits = read_edits(sys.argv[1:])
+    options = argparse.ArgumentParser(description=__doc__, formatter_class=argparse.RawDescriptionHelpFormatter)
+    options.add_argument("words", nargs="*", metavar="WORD")
+    edits = read_edits(options.parse_args().words)
     passed = failed = 0
     with tempfile.TemporaryDirectory() as work:
         commands = os.path.join(work, "commands")
