@@ -1,17 +1,18 @@
 #!/bin/sh
 # Tests of the commands: what needs only the program, over stored snapshots, in a folder of its own, in up to four
-# processes. It takes some six minutes beside other work, and ends with the line `N passed, M failed`; the exit status is 0 where none failed.
+# processes. It takes some six minutes beside other work, and ends with the line `N passed, M failed`; the exit status is 0
+# if none failed.
 #
 # usage: tools/check_commands.sh [--all | --no-lint] [PROGRAM]      PROGRAM: one that is built (crates/facl_cli/out/facl_cli)
 #        tools/check_commands.sh --lint
 #
-# With --all it also tests facl-ask at a terminal, and over several snapshots, and runs the tests of commands by verbs, which takes
-# some minutes more.
+# With --all it also tests facl-ask at a terminal, and over several snapshots, and runs the tests of commands by verbs, which
+# takes some minutes more.
 # Each of these counts as a failed test where it finds something: shellcheck, mypy and pyflakes3 where they are installed,
-# tools/check.py documents, memory_faults, line_lengths, edits_apply. They come first; with --lint they
-# are all that is done, which takes no program and half a minute, and with --no-lint they are left out.
-# tools/check.py growth --quick is a test too, which needs the kit; so is tools/check.py wrong_commands, as root. Pages are tested in Chromium where it is installed. What needs a real
-# file system and root is in tools/check.py live, snapshot and daily.
+# tools/check.py documents, memory_faults, line_lengths, edits_apply. They come first; with --lint they are all that is done,
+# which takes no program and half a minute, and with --no-lint they are left out.
+# tools/check.py growth --quick is a test too, which needs the kit; so is tools/check.py wrong_commands, as root. Pages are
+# tested in Chromium if it is installed. What needs a real file system and root is in tools/check.py live, snapshot and daily.
 set -eu
 top=$(cd "$(dirname "$0")/.." && pwd)
 case ${1:-} in

@@ -4,11 +4,11 @@
 usage: tools/gate.py
 
 First the ways through crates.txt (tools/ways.py) and tools/check_commands.sh --lint, which ends the gate where it finds
-something. Then `rt ci` proves every crate from nothing and runs its tests, in as many lanes as tools/lib/lanes.py finds: with
-two or more they are given by RT_JOBS, and then `rt ci` reserves no memory, but a check waits while memory is short
-(tools/lib/memory_watch.py); with one, or where RT_JOBS is set already, nothing changes. Beside it, tools/edits.py tries the wrong bodies of crates/NAME/wrong/ on lanes that are idle, and once `rt ci` says
-that the programs are proved, now or by an earlier run, which it does after it has built them, tools/check_commands.sh tests the
-commands by them.
+something. Then `rt ci` proves every crate, but what it proved on this machine before, and runs its tests, in as many lanes as
+tools/lib/lanes.py finds: with two or more they are given by RT_JOBS, and then `rt ci` reserves no memory, but a check waits while
+memory is short (tools/lib/memory_watch.py); with one, or if RT_JOBS is set already, nothing changes. Beside it, tools/edits.py
+tries the wrong bodies of crates/NAME/wrong/ on lanes that are idle, and once `rt ci` says that the programs are proved, now or by
+an earlier run, which it does after it has built them, tools/check_commands.sh tests the commands by them.
 
 What `rt ci` prints is printed as it comes; what the others print, once it has ended. The last line is `N passed, M failed`, of
 all. The exit status is 0 where none failed, 1 where something did, and 128 and the signal's number where it is interrupted.
