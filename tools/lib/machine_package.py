@@ -18,6 +18,11 @@ STORE = "/var/lib/facl"
 NEW_FILES = (f"find / -xdev -path '*facl*' ! -name '[gs]etfacl*' ! -path '{WORK}*' ! -path '{STORE}/*' ! -path '/var/cache/*' "
              "! -path '/var/log/*'")
 SETTINGS = "/etc/default/facl-daily"
+# A question and then the end of the input. What comes before the prompt is there is lost as it takes the terminal.
+TYPED_AT_PROMPT = f"""cd /; rm -f {WORK}/shown; touch {WORK}/shown
+shows() {{ timeout 600 sh -c 'until grep -q -e "$0" {WORK}/shown; do sleep 1; done' "$1"; }}
+{{ shows 'paths>'; echo 'can mara /srv/project/notes.txt'; shows 'r--'; sleep 5; printf '\\004'; }} |
+    script -qefc 'facl ask' {WORK}/shown 2>&1"""
 
 
 class Row(NamedTuple):
@@ -142,8 +147,8 @@ class PackagePart:
             self.expect(row.status in statuses_of(row.line), f"`{line}`: its page has no status {done.status}")
 
     def prompt(self) -> None:
-        """The prompt at a terminal, and completion by bash."""
-        done = self.machine.ask("cd /; script -qec 'facl ask' /dev/null 2>&1", "can mara /srv/project/notes.txt\n\x04")
+        """The prompt at a terminal, at which each word is typed when the one before is answered, and completion by bash."""
+        done = self.machine.ask(TYPED_AT_PROMPT)
         self.expect("r--" in done.out and done.status == 0, f"the prompt: status {done.status}: {done.out!r}")
         words = "COMP_LINE='facl who-' COMP_POINT=9; . /usr/share/bash-completion/completions/facl; compopt() { :; }"
         done = self.machine.ask(f"bash -c \"{words}; _facl facl who- facl; echo \\${{COMPREPLY[@]}}\"")
