@@ -2,12 +2,13 @@
 use crate::lines::Line;
 use crate::rows::{Wanted, bytes, is_next};
 use crate::texts::{GROUP, PASSWD};
-use crate::world::{FREE, Row, first_wrong, nothing};
+use crate::world::{FREE, Row, World, first_wrong, nothing};
 use acl_names::read_path;
 use acl_rights::{ClassFiles, FileClasses};
 use acl_tree::Table;
 use std::alloc::Global;
 use std::cmp::Ordering;
+use std::process::Abort;
 
 /// Two directories with files of one label.
 const FILES: &[u8] =
@@ -94,6 +95,78 @@ fn each_file_from_a_path_on_has_a_class(rt: HostRuntime) {
     let is_along = are(alloc, along, ALONG.split_at(2).1, 3);
     drop(world);
     assert!(rt; (is_alone, is_along) == (Some(true), Some(true)));
+}
+
+/// Three directories, of which the last has the label of the first; files of one label below each of them.
+const FILES_APART: &[u8] =
+    b"# file: .\n# owner: lisa\n# group: staff\nuser::rwx\ngroup::r-x\nother::r-x\n\n\
+# file: a\n# owner: lisa\n# group: staff\nuser::rwx\ngroup::---\nother::---\n\n\
+# file: a/f\n# owner: lisa\n# group: staff\nuser::rw-\ngroup::r--\nother::r--\n\n\
+# file: b\n# owner: lisa\n# group: staff\nuser::rwx\ngroup::r-x\nother::r-x\n\n\
+# file: b/f\n# owner: lisa\n# group: staff\nuser::rw-\ngroup::r--\nother::r--\n\n\
+# file: b/g\n# owner: lisa\n# group: staff\nuser::rw-\ngroup::r--\nother::r--\n\n\
+# file: c\n# owner: lisa\n# group: staff\nuser::rwx\ngroup::---\nother::---\n\n\
+# file: c/f\n# owner: lisa\n# group: staff\nuser::rw-\ngroup::r--\nother::r--\n\n";
+
+static SETUP_APART: [Row; 3] = [
+    Row {
+        line: Line::Load(Table::Passwd, PASSWD),
+        ..FREE
+    },
+    Row {
+        line: Line::Load(Table::Group, GROUP),
+        ..FREE
+    },
+    Row {
+        line: Line::Load(Table::Dump, FILES_APART),
+        asked: (0, 9),
+        refreshed: 24,
+        ..FREE
+    },
+];
+
+/// A file leaves its class and comes back, while another one has it.
+static COMES_BACK: [Row; 2] = [
+    Row {
+        line: Line::Chmod(0o600, b"b/f"),
+        asked: (0, 3),
+        refreshed: 3,
+        ..FREE
+    },
+    Row {
+        line: Line::Chmod(0o644, b"b/f"),
+        refreshed: 3,
+        ..FREE
+    },
+];
+
+static ALONG_APART: [Wanted; 8] = [
+    (b".", [0xff, 0x33, 0x33]),
+    (b"a", [0xff, 0x01, 0x01]),
+    (b"a/f", [0x55, 0x00, 0x00]),
+    (b"b", [0xff, 0x33, 0x33]),
+    (b"b/f", [0x55, 0x11, 0x11]),
+    (b"b/g", [0x55, 0x11, 0x11]),
+    (b"c", [0xff, 0x01, 0x01]),
+    (b"c/f", [0x55, 0x00, 0x00]),
+];
+
+/// The files along their paths have five classes, although no rows are compared: `c` has that of `a`, `c/f` that of `a/f`,
+/// and `b/g` that of `b/f`.
+fn expect_five(rt: &impl Abort, alloc: Global, world: &World) {
+    let mut classes = world.index.file_classes(alloc, true);
+    classes.keep_apart();
+    assert!(rt; are(alloc, classes, &ALONG_APART, 5) == Some(true));
+}
+
+#[test]
+fn files_share_a_class_without_their_rows(rt: HostRuntime) {
+    let alloc = rt.alloc();
+    let mut world = nothing(alloc).expect(&rt, "memory");
+    assert_eq!(rt; first_wrong(alloc, &mut world, &SETUP_APART), None);
+    expect_five(&rt, alloc, &world);
+    assert_eq!(rt; first_wrong(alloc, &mut world, &COMES_BACK), None);
+    expect_five(&rt, alloc, &world);
 }
 
 /// The first file of a class, with the row of the class, and how many files have it.

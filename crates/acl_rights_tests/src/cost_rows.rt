@@ -5,6 +5,8 @@ use crate::texts::{ANN, FILES, GROUP, JOE, LISA, PASSWD};
 use crate::world::{FREE, Row};
 use acl_tree::Table;
 
+/// Five files of five kinds and four labels: the root and run have one, but the root alone is a directory. Each label is
+/// judged once for three users.
 pub static SETUP: [Row; 3] = [
     Row {
         line: Line::Load(Table::Passwd, PASSWD),
@@ -16,7 +18,7 @@ pub static SETUP: [Row; 3] = [
     },
     Row {
         line: Line::Load(Table::Dump, FILES),
-        asked: (0, 15),
+        asked: (0, 12),
         refreshed: 15,
         ..FREE
     },
@@ -43,8 +45,8 @@ pub static FILES_ALONE: [Row; 4] = [
     },
 ];
 
-/// The root and run have the label that f gets first: its row is there. The one that f gets back is of no other file: its row may be asked
-/// for again.
+/// The root and run have the label that f gets first: its row is there. The one that f gets back is of no other file: its
+/// row may be judged again.
 pub static LIKE_ANOTHER: [Row; 2] = [
     Row {
         line: Line::Chmod(0o755, b"f"),
@@ -56,6 +58,55 @@ pub static LIKE_ANOTHER: [Row; 2] = [
         line: Line::Chmod(0o640, b"f"),
         asked: (0, 3),
         refreshed: 3,
+        ..FREE
+    },
+];
+
+/// The number that f's label had is given to the new label of log. So the label that f gets back has another number, and the
+/// hint of the load leads to the label of log. Run then gets the label of f without a verdict: by the hint of the line
+/// before, and again after two more lines, when this hint was merged with that of the load.
+pub static ANOTHER_NUMBER: [Row; 7] = [
+    Row {
+        line: Line::Chmod(0o600, b"f"),
+        asked: (0, 3),
+        ..FREE
+    },
+    Row {
+        line: Line::Chmod(0o604, b"log"),
+        asked: (0, 3),
+        refreshed: 3,
+        verdicts: &[(JOE, b"log", 0x11)],
+        ..FREE
+    },
+    Row {
+        line: Line::Chmod(0o640, b"f"),
+        asked: (0, 3),
+        ..FREE
+    },
+    Row {
+        line: Line::Chmod(0o640, b"run"),
+        refreshed: 3,
+        verdicts: &[(LISA, b"run", 0x55), (JOE, b"run", 0x01)],
+        ..FREE
+    },
+    Row {
+        line: Line::Chmod(0o611, b"run"),
+        asked: (0, 3),
+        refreshed: 3,
+        verdicts: &[(JOE, b"run", 0x03)],
+        ..FREE
+    },
+    Row {
+        line: Line::Chmod(0o612, b"run"),
+        asked: (0, 3),
+        refreshed: 3,
+        verdicts: &[(JOE, b"run", 0x05)],
+        ..FREE
+    },
+    Row {
+        line: Line::Chmod(0o640, b"run"),
+        refreshed: 3,
+        verdicts: &[(LISA, b"run", 0x55), (JOE, b"run", 0x01)],
         ..FREE
     },
 ];

@@ -2,12 +2,14 @@
 ghost use Rattle.acl_entry.specs.Check.{rights};
 ghost use Rattle.acl_rights.specs.Tables.{IsWhole};
 
-use crate::cost_rows::{FILES_ALONE, FOUR_LABELS, LIKE_ANOTHER, RESTORED, SEARCH, SETUP};
+use crate::cost_rows::{
+    ANOTHER_NUMBER, FILES_ALONE, FOUR_LABELS, LIKE_ANOTHER, RESTORED, SEARCH, SETUP,
+};
 use crate::people_rows::{
     COMES_AND_GOES, COMES_BACK, LISTED, MEMBERSHIPS, NAMED, NOBODY_IS_LEFT, NOBODY_IS_LOADED,
     PRIMARY,
 };
-use crate::world::{Row, World, asked_by_build, first_wrong, nothing};
+use crate::world::{Row, World, asked_by_build, first_wrong, indexed_anew, nothing};
 use std::alloc::Global;
 use std::process::Abort;
 
@@ -38,6 +40,7 @@ fn lines_on_files_cost_what_they_change(rt: HostRuntime) {
         &rt,
         rt.alloc(),
         &[
+            &ANOTHER_NUMBER,
             &FILES_ALONE,
             &FOUR_LABELS,
             &LIKE_ANOTHER,
@@ -86,4 +89,11 @@ fn a_build_without_files_asks_for_nothing(rt: HostRuntime) {
 #[test]
 fn a_build_asks_for_each_user_on_each_file(rt: HostRuntime) {
     expect_build(&rt, rt.alloc(), after(&rt, rt.alloc(), &[]), 15);
+}
+
+#[test]
+fn labels_are_found_after_a_build(rt: HostRuntime) {
+    let loaded = after(&rt, rt.alloc(), &[]);
+    let mut world = indexed_anew(rt.alloc(), loaded).expect(&rt, "memory");
+    expect_none(&rt, first_wrong(rt.alloc(), &mut world, &LIKE_ANOTHER));
 }

@@ -1,7 +1,7 @@
 //! Lines on as many files as there are kinds, or more.
 
 use crate::lines::Line;
-use crate::texts::{ANN, GROUP, JOE, PASSWD};
+use crate::texts::{ANN, GROUP, JOE, LISA, PASSWD};
 use crate::world::{FREE, Row, first_wrong, nothing};
 use acl_tree::Table;
 
@@ -132,9 +132,56 @@ static A_LABEL_PARTS: [Row; 2] = [
     },
 ];
 
+const TWO_FOLDERS: &[u8] = b"# file: a\nuser::rwx\ngroup::rwx\nother::r-x\n\n\
+# file: a/1\nuser::rw-\ngroup::r--\nother::r--\n\n\
+# file: b\nuser::rwx\ngroup::rwx\nother::r-x\n\n\
+# file: b/1\nuser::rw-\ngroup::r--\nother::r--\n";
+
+/// Four files get two labels by turns, each of which is judged once. Verdicts on the two files that are no directories become
+/// others.
+static BY_TURNS: [Row; 1] = [Row {
+    line: Line::Restore(TWO_FOLDERS),
+    asked: (0, 6),
+    refreshed: 6,
+    verdicts: &[(JOE, b"b", 0x33), (JOE, b"b/1", 0x11), (JOE, b"b/2", 0x01)],
+    ..FREE
+}];
+
+const ROOT_AND_THREE: &[u8] = b"# file: .\nuser::rwx\ngroup::rwx\nother::r-x\n\n\
+# file: a/1\nuser::rwx\ngroup::r-x\nother::r-x\n\n\
+# file: a/2\nuser::rwx\ngroup::r-x\nother::r-x\n\n\
+# file: a/3\nuser::rwx\ngroup::r-x\nother::r-x\n";
+
+/// The root and three files change, as many as the tree has numbers then: two that stay, and two that are new. The root's
+/// label alone is judged: the three files get that of the directories, which was the first. All files count.
+static A_LABEL_STAYS: [Row; 1] = [Row {
+    line: Line::Restore(ROOT_AND_THREE),
+    asked: (0, 3),
+    refreshed: 36,
+    verdicts: &[(JOE, b".", 0x33), (JOE, b"a/3", 0x33), (JOE, b"a/4", 0x01)],
+    ..FREE
+}];
+
+/// A user who comes is judged once on each of two labels, and has a verdict on each of twelve files.
+static A_USER_COMES: [Row; 1] = [Row {
+    line: Line::Useradd(b"bob", 1003, b"staff"),
+    asked: (0, 2),
+    refreshed: 12,
+    verdicts: &[(3, b"b", 0x33), (3, b"c", 0x11), (LISA, b"c", 0x55)],
+    ..FREE
+}];
+
 #[test]
 fn lines_on_many_files_cost_their_labels(rt: HostRuntime) {
-    for rows in [&ALL_FILES as &[Row], &A_FOLDER, &THEN_ONE, &A_LABEL_PARTS] {
+    for rows in [
+        &ALL_FILES as &[Row],
+        &A_FOLDER,
+        &THEN_ONE,
+        &A_LABEL_PARTS,
+        &BY_TURNS,
+        &A_LABEL_STAYS,
+        &A_USER_COMES,
+    ] {
         let mut world = nothing(rt.alloc()).expect(&rt, "memory");
         assert_eq!(rt; first_wrong(rt.alloc(), &mut world, &SETUP), None);
         assert_eq!(rt; first_wrong(rt.alloc(), &mut world, rows), None);

@@ -25,12 +25,13 @@ fn loaded(rt: &impl Abort, alloc: Global) -> State {
     state
 }
 
-/// A state and the one after a line, which is the same where the line is refused; none where memory runs out.
-fn after(alloc: Global, state: State, line: &Line) -> Option<IndexedStates<Posix>> {
+/// A state and the one after a line, which is the same if the line is refused; if it `loads`, the state after it is the
+/// loaded one too. None if memory runs out.
+fn after(alloc: Global, state: State, line: &Line, loads: bool) -> Option<IndexedStates<Posix>> {
     let mut judge = Posix::new();
     let mut states = IndexedStates::new(alloc, &mut judge, state).ok()?;
     let staged = prepared(alloc, states.state().state(), line);
-    match states.replace_if(alloc, &mut judge, staged, false) {
+    match states.replace_if(alloc, &mut judge, staged, loads) {
         Ok(()) => Some(states),
         Err(_) => None,
     }
@@ -44,7 +45,7 @@ fn requests(rt: &impl Abort, indexed: &IndexedState<Posix>, path: &Path) -> u8 {
 
 /// A line, how many parts of the tree it changes, and what joe may do with `f` after it.
 fn expect_after(rt: &impl Abort, alloc: Global, line: &Line, parts: usize, byte: u8) {
-    let states = after(alloc, loaded(rt, alloc), line).expect(rt, "memory");
+    let states = after(alloc, loaded(rt, alloc), line, false).expect(rt, "memory");
     let file = path(rt, alloc, b"f");
     assert!(rt; requests(rt, states.loaded(), &file) == 0x01);
     assert!(rt; requests(rt, states.state(), &file) == byte);
@@ -56,4 +57,15 @@ fn expect_after(rt: &impl Abort, alloc: Global, line: &Line, parts: usize, byte:
 fn the_loaded_state_is_kept(rt: HostRuntime) {
     expect_after(&rt, rt.alloc(), &Line::Chmod(0o644, b"f"), 1, 0x11);
     expect_after(&rt, rt.alloc(), &Line::Chmod(0o644, b"gone"), 0, 0x01);
+}
+
+// What changed before a load is no part of what changed since.
+#[test]
+fn a_load_begins_again(rt: HostRuntime) {
+    let state = loaded(&rt, rt.alloc());
+    let states = after(rt.alloc(), state, &Line::Chmod(0o644, b"f"), true).expect(&rt, "memory");
+    let file = path(&rt, rt.alloc(), b"f");
+    assert!(rt; requests(&rt, states.loaded(), &file) == 0x11);
+    assert!(rt; states.changed().is_empty());
+    drop(states);
 }

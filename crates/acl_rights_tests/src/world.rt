@@ -158,11 +158,12 @@ pub fn first_wrong(alloc: Global, world: &mut World, rows: &[Row]) -> Option<usi
     None
 }
 
-/// No file, and nobody.
-pub fn nothing(alloc: Global) -> Option<World>
+/// A state with an index that is made of it.
+fn indexed(alloc: Global, state: State) -> Option<World>
     ensures { IfSome result (λ world. IsWhole rights world.state world.index) }
 {
-    let state = State::new(alloc).ok()?;
+    state.tree().soundness_law();
+    state.people().soundness_law();
     let mut judge = Posix::new();
     match Index::build(alloc, &mut judge, state.tree(), state.people()) {
         Ok(index) => Some(World {
@@ -175,4 +176,25 @@ pub fn nothing(alloc: Global) -> Option<World>
             None
         }
     }
+}
+
+/// The state of a world, with an index that is made anew.
+pub fn indexed_anew(alloc: Global, world: World) -> Option<World>
+    ensures { IfSome result (λ world. IsWhole rights world.state world.index) }
+{
+    let World {
+        state,
+        index,
+        judge: _judge,
+    } = world;
+    drop(index);
+    indexed(alloc, state)
+}
+
+/// No file, and nobody.
+pub fn nothing(alloc: Global) -> Option<World>
+    ensures { IfSome result (λ world. IsWhole rights world.state world.index) }
+{
+    let state = State::new(alloc).ok()?;
+    indexed(alloc, state)
 }

@@ -391,6 +391,27 @@ fn commands(rt: HostRuntime) {
     drop(people);
 }
 
+const ONE_CHANGES: &[u8] = b"# file: f\nuser::rwx\ngroup::r-x\nother::---\n\n\
+# file: log\nuser::rw-\ngroup::r--\nother::---\n";
+
+/// Two records; the file of the second one stays as it is. So it keeps the number of its node, and one file alone likely
+/// changed.
+#[test]
+fn a_restored_file_that_stays(rt: HostRuntime) {
+    let (tree, people) = load(&rt, rt.alloc());
+    let restore: Command<'_> = Command::Restore {
+        records: records(&rt, rt.alloc(), ONE_CHANGES),
+    };
+    let prepared: Result<Staged, TreeFault> = tree.prepare(rt.alloc(), &people, &restore);
+    drop(restore);
+    let staged: Staged = prepared.expect(&rt, "a command");
+    let likely: usize = staged.likely_changed();
+    staged.give_up();
+    drop(tree);
+    drop(people);
+    assert!(rt; likely == 1);
+}
+
 /// The number of a fault among the faults of a command.
 fn number(fault: TreeFault) -> u8 {
     match fault {

@@ -1,9 +1,10 @@
 //! Names and paths. Each public call of `path_map` once, on a map with two names that begin alike, and on one of several
 //! branches. Of `kinds`: lists in shared blocks, numbers of nodes that are given back and given again, maps that are built
-//! and put into, maps of the same paths with other nodes, and sets of pairs of numbers.
+//! and put into, how many numbers an edit of a map takes, maps of the same paths with other nodes, and sets of pairs of
+//! numbers.
 //!
-//! They are apart from these crates, since a crate with tests is proved twice. Edits of maps by kinds are tested by
-//! the commands of `acl_tree`.
+//! They are apart from these crates, since a crate with tests is proved twice. What edits make of maps by kinds is tested
+//! by the commands of `acl_tree`.
 #![tactic(auto)]
 
 #[cfg(test)]
@@ -28,3 +29,5 @@ mod numbers;
 mod pairs;
 #[cfg(test)]
 mod paths;
+#[cfg(test)]
+mod shared_numbers;

@@ -30,24 +30,28 @@ fn a_number_that_is_given_back_is_given_again(rt: HostRuntime) {
     expect_node(&rt, &kinds, 2, 8);
 }
 
-/// Three nodes, of which two are given back, the last one of both first or not; their numbers are given again, the last one first.
-fn expect_given_again(rt: &impl Abort, alloc: Global, back: [usize; 2]) {
+/// Four nodes, of which three are given back, in this order. Their numbers are given again, the last one first, and then one
+/// that is new.
+fn expect_given_again(rt: &impl Abort, alloc: Global, back: [usize; 3]) {
     let kinds = added(rt, alloc, Kinds::new(alloc), 5, 0);
     let kinds = added(rt, alloc, kinds, 6, 1);
     let kinds = added(rt, alloc, kinds, 7, 2);
+    let kinds = added(rt, alloc, kinds, 8, 3);
     let kinds = kinds.release(back[0], 1).expect(rt, "memory");
     let kinds = kinds.release(back[1], 1).expect(rt, "memory");
+    let kinds = kinds.release(back[2], 1).expect(rt, "memory");
     let kinds = kinds.share().expect(rt, "memory");
-    let kinds = added(rt, alloc, kinds, 8, back[1]);
-    let kinds = added(rt, alloc, kinds, 9, back[0]);
-    let kinds = added(rt, alloc, kinds, 10, 3);
+    let kinds = added(rt, alloc, kinds, 9, back[2]);
+    let kinds = added(rt, alloc, kinds, 10, back[1]);
+    let kinds = added(rt, alloc, kinds, 11, back[0]);
+    let kinds = added(rt, alloc, kinds, 12, 4);
     expect_node(rt, &kinds, 1, 6);
 }
 
 #[test]
-fn two_numbers_that_are_given_back_are_given_again(rt: HostRuntime) {
-    expect_given_again(&rt, rt.alloc(), [0, 2]);
-    expect_given_again(&rt, rt.alloc(), [2, 0]);
+fn numbers_that_are_given_back_are_all_given_again(rt: HostRuntime) {
+    expect_given_again(&rt, rt.alloc(), [0, 2, 3]);
+    expect_given_again(&rt, rt.alloc(), [3, 0, 2]);
 }
 
 /// A node that replaces another one, whose number it gets.
