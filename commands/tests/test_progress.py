@@ -24,6 +24,7 @@ from facl_commands.verbs.table import BY_VERB
 
 SLOW = """\
 #!/bin/sh
+: >'%s'
 sleep 2.6
 exec %s "$@"
 """
@@ -58,7 +59,7 @@ class Running(VerbCase):
     def setUp(self) -> None:
         super().setUp()
         self.stored("new")
-        self.write("slow", (SLOW % LINUX.find()).encode())
+        self.write("slow", (SLOW % (self.path("begun"), LINUX.find())).encode())
         os.chmod(self.path("slow"), 0o755)
         self.words = ["who", "read", "--program", self.path("slow"), "--no-pager"]
 
@@ -92,7 +93,9 @@ class Running(VerbCase):
     def test_a_signal(self) -> None:
         for number in (signal.SIGINT, signal.SIGTERM):
             run = self.started(self.words, subprocess.PIPE)
-            time.sleep(1)
+            while run.poll() is None and not os.path.exists(self.path("begun")):
+                time.sleep(0.01)
+            os.unlink(self.path("begun"))
             run.send_signal(number)
             out, said = run.communicate()
             self.assertEqual((run.returncode, out, said),
