@@ -136,9 +136,9 @@ class Refusals:
 
     def keep(self, before: Dict[str, WrongBody], refused: List[WrongBody]) -> None:
         """Keeps edits that were refused, but for those of which a file that their check read is no more what it was."""
-        if os.path.isdir(self.store):
+        if refused and os.path.isdir(self.store):
             os.makedirs(self.folder, mode=0o700, exist_ok=True)
-        for each, body in self.sums(refused).items() if self.is_ours() else ():
+        for each, body in self.sums(refused).items() if refused and self.is_ours() else ():
             if each in before:
                 Path(self.folder, each).write_text(body.label + "\n", encoding="utf-8")
 
@@ -237,8 +237,9 @@ class Gate:
 
     def __init__(self, crates: Crates) -> None:
         self.crates = crates
+        self.refusals: Optional[Refusals] = None
+        self.left: Dict[str, WrongBody] = {}
         self.trials: List[Trial] = []
-        self.refused: List[WrongBody] = []
         self.passed = self.failed = 0
 
     def say(self, label: str, is_refused: bool, text: str) -> None:
@@ -258,24 +259,26 @@ class Gate:
             if bodies:
                 self.trials.append(Trial(crate, self.crates.needed(crate) - {crate}, bodies))
 
-    def leave_out(self, refusals: Refusals) -> Dict[str, WrongBody]:
-        """Leaves out the edits that an earlier run had refused. Returns all others by their sums."""
-        left = {}
-        for each, body in refusals.sums([body for trial in self.trials for body in trial.bodies]).items():
+    def leave_out(self, refusals: Refusals) -> None:
+        """Leaves out the edits that an earlier run had refused. All others are kept, once they are refused."""
+        bodies = [body for trial in self.trials for body in trial.bodies]
+        for each, body in refusals.sums(bodies).items():
             if refusals.has(each):
                 self.say(body.label, True, "refused by an earlier run, of the same files, on this machine")
             else:
-                left[each] = body
+                self.left[each] = body
         for trial in self.trials:
-            trial.hold([body for body in trial.bodies if body in left.values()])
-        return left
+            trial.hold([body for body in trial.bodies if body in self.left.values()])
+        self.refusals = refusals
 
     def take_ended(self) -> None:
         for trial in self.trials:
             if trial.check and trial.check.program.poll() is not None:
-                for body, is_refused, text in trial.take():
+                taken = list(trial.take())
+                for body, is_refused, text in taken:
                     self.say(body.label, is_refused, text)
-                    self.refused += [body] if is_refused else []
+                if self.refusals:
+                    self.refusals.keep(self.left, [body for body, is_refused, _ in taken if is_refused])
 
     def step(self, libraries: Libraries, jobs: int, prepare: Callable[[Trial], None]) -> bool:
         """Takes what ended, and starts what there is room for. Returns whether something is left."""
@@ -327,12 +330,8 @@ def main() -> int:
     with tempfile.TemporaryDirectory(prefix="facl-edits.") as work:
         if not given.beside:
             return gate.run(Proved(crates, kit), kit, given.jobs, work)
-        refusals = Refusals(crates, kit)
-        left = gate.leave_out(refusals)
-        try:
-            return gate.run(Beside(work, given.beside, given.log, given.jobs), kit, given.jobs, work)
-        finally:
-            refusals.keep(left, gate.refused)
+        gate.leave_out(Refusals(crates, kit))
+        return gate.run(Beside(work, given.beside, given.log, given.jobs), kit, given.jobs, work)
 
 
 if __name__ == "__main__":

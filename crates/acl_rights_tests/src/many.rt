@@ -79,12 +79,19 @@ static ALL_FILES: [Row; 5] = [
 ];
 
 /// All files of one folder change, and what is below it is counted once.
-static A_FOLDER: [Row; 2] = [
+static A_FOLDER: [Row; 3] = [
     Row {
         line: Line::Setfacl(b"u:joe:rX", true, b"a"),
         asked: (0, 6),
         refreshed: 12,
         verdicts: &[(JOE, b"a/4", 0x11), (JOE, b"b/1", 0x01)],
+        ..FREE
+    },
+    // The label is one that files of the folder have.
+    Row {
+        line: Line::Setfacl(b"u:joe:r", false, b"c"),
+        refreshed: 3,
+        verdicts: &[(JOE, b"c", 0x11)],
         ..FREE
     },
     Row {
@@ -114,7 +121,7 @@ static THEN_ONE: [Row; 2] = [
 
 /// A directory has the label that files have, and a line on all files gives it another one than these: `X` is search for a
 /// directory alone. So labels get other numbers, and all files count.
-static A_LABEL_PARTS: [Row; 2] = [
+static A_LABEL_PARTS: [Row; 3] = [
     Row {
         line: Line::Chmod(0o640, b"b"),
         refreshed: 15,
@@ -128,6 +135,13 @@ static A_LABEL_PARTS: [Row; 2] = [
         refreshed: 36,
         verdicts: &[(JOE, b"b", 0x33), (JOE, b"c", 0x11)],
         reach: &[(JOE, b"b/1", 0x11), (ANN, b"b/1", 0)],
+        ..FREE
+    },
+    // The label is that of the root: its row is found by its new number.
+    Row {
+        line: Line::Setfacl(b"u::rwx,u:joe:rx,g::rx,m::rx,o::rx", false, b"c"),
+        refreshed: 3,
+        verdicts: &[(ANN, b"c", 0x33)],
         ..FREE
     },
 ];

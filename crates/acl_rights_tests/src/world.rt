@@ -178,7 +178,7 @@ fn indexed(alloc: Global, state: State) -> Option<World>
     }
 }
 
-/// The state of a world, with an index that is made anew.
+/// The state of a world, with an index that is made from scratch.
 pub fn indexed_anew(alloc: Global, world: World) -> Option<World>
     ensures { IfSome result (λ world. IsWhole rights world.state world.index) }
 {

@@ -6,6 +6,8 @@
 #[cfg(test)]
 mod chmod;
 #[cfg(test)]
+mod commands;
+#[cfg(test)]
 mod creat;
 #[cfg(test)]
 mod edits;

@@ -1,26 +1,14 @@
 //! The public surface as a user sees it, with its types written out: people, the tree, and commands.
+use crate::commands::{Line, command, gpasswd, records, rm};
 use crate::rows::path;
 use crate::shown::count_of;
 use crate::small_tree::{accept, load};
 use acl_tree::{
-    Command, DumpRecord, DumpRecords, DumpUse, Edit, EditFault, FilesFinder, Id, Kind, Membership,
-    Name, Names, NewFile, NewUser, NoMemory, NoNames, Node, Path, Paths, People, Staged, Subject,
-    Table, Tree, TreeFault, UserName, is_same_node, label_hash, node_hash, read_dump, read_name,
+    Command, EditFault, FilesFinder, Id, Kind, Membership, Names, NoMemory, Node, Path, People,
+    Staged, Subject, Table, Tree, TreeFault, is_same_node, label_hash, node_hash,
 };
 use std::alloc::Global;
 use std::process::Abort;
-
-/// The name of a text.
-fn name(rt: &impl Abort, alloc: Global, text: &[u8]) -> Name {
-    read_name(alloc, text).expect(rt, "memory")
-}
-
-/// One operand.
-fn operand(rt: &impl Abort, alloc: Global, text: &[u8]) -> Paths {
-    let mut list: Vec<Path> = Vec::new(alloc);
-    list.push(path(rt, alloc, text)).expect(rt, "memory");
-    Paths::new(list)
-}
 
 fn expect_people(rt: &impl Abort, people: &People) {
     let count: usize = people.users();
@@ -191,120 +179,6 @@ fn a_prepared_state(rt: HostRuntime) {
     let after: (&Tree, &People) = (staged.tree(), staged.people());
     assert!(rt; after.0.get(&path(&rt, rt.alloc(), b".")).is_some() && after.1.users() == 3);
     staged.give_up();
-}
-
-fn chmod(rt: &impl Abort, alloc: Global) -> Command<'static> {
-    Command::Chmod {
-        paths: operand(rt, alloc, b"pub"),
-        mode: 0o770,
-        recursive: true,
-    }
-}
-
-fn flatten(rt: &impl Abort, alloc: Global) -> Command<'static> {
-    Command::Edit {
-        paths: operand(rt, alloc, b"pub"),
-        edit: Edit::Flatten {
-            access: true,
-            dacl: true,
-        },
-        recursive: false,
-    }
-}
-
-fn creat(rt: &impl Abort, alloc: Global) -> Command<'static> {
-    Command::Creat(NewFile {
-        path: path(rt, alloc, b"pub/n"),
-        kind: Kind::Plain,
-        user: name(rt, alloc, b"ann"),
-        mode: 0o640,
-        umask: 0o22,
-    })
-}
-
-fn rm(rt: &impl Abort, alloc: Global) -> Command<'static> {
-    Command::Rm {
-        paths: operand(rt, alloc, b"f"),
-        recursive: false,
-    }
-}
-
-/// The records of a text.
-fn records(rt: &impl Abort, alloc: Global, text: &[u8]) -> DumpRecords {
-    let records: Vec<DumpRecord> = read_dump(alloc, text, DumpUse::Restore, &NoNames).expect(
-        rt, "records",
-    );
-    DumpRecords::new(records)
-}
-
-const RECORD: &[u8] = b"# file: f\nuser::rwx\ngroup::r-x\nother::---\n";
-
-fn restore(rt: &impl Abort, alloc: Global) -> Command<'static> {
-    Command::Restore {
-        records: records(rt, alloc, RECORD),
-    }
-}
-
-/// `gpasswd` of joe and adm.
-fn gpasswd(rt: &impl Abort, alloc: Global, change: Membership) -> Command<'static> {
-    Command::Gpasswd {
-        user: name(rt, alloc, b"joe"),
-        group: name(rt, alloc, b"adm"),
-        change,
-    }
-}
-
-fn usermod(rt: &impl Abort, alloc: Global) -> Command<'static> {
-    Command::Usermod {
-        user: name(rt, alloc, b"joe"),
-        group: name(rt, alloc, b"staff"),
-    }
-}
-
-fn bob(rt: &impl Abort, alloc: Global) -> UserName {
-    let bob: Option<UserName> = UserName::new(name(rt, alloc, b"bob"));
-    bob.expect(rt, "a name")
-}
-
-fn useradd(rt: &impl Abort, alloc: Global) -> Command<'static> {
-    Command::Useradd(NewUser {
-        name: bob(rt, alloc),
-        uid: Id::new(1003).expect(rt, "an id"),
-        group: name(rt, alloc, b"staff"),
-    })
-}
-
-fn userdel(rt: &impl Abort, alloc: Global) -> Command<'static> {
-    Command::Userdel {
-        user: name(rt, alloc, b"joe"),
-    }
-}
-
-/// A command of those above.
-enum Line {
-    Chmod,
-    Flatten,
-    Creat,
-    Rm,
-    Restore,
-    Gpasswd,
-    Usermod,
-    Useradd,
-    Userdel,
-}
-
-fn command(rt: &impl Abort, alloc: Global, line: &Line) -> Command<'static> {
-    match line {
-        Line::Chmod => chmod(rt, alloc),
-        Line::Flatten => flatten(rt, alloc),
-        Line::Creat => creat(rt, alloc),
-        Line::Rm => rm(rt, alloc),
-        Line::Restore => restore(rt, alloc),
-        Line::Gpasswd => gpasswd(rt, alloc, Membership::Add),
-        Line::Usermod => usermod(rt, alloc),
-        Line::Useradd => useradd(rt, alloc),
-        Line::Userdel => userdel(rt, alloc),
-    }
 }
 
 /// A command, and what it stages on the texts' tree.
