@@ -141,7 +141,7 @@ warn() {
     echo "$script_name: warning: $1" >&2
 }
 
-# say_what_is_missing: what the commands call, and where they are looked for
+# say_what_is_missing: what the commands call, with the package of each
 say_what_is_missing() {
     [ -n "$linux_program" ] || warn "without facl_linux (--linux-program) the commands answer with --acl5 alone"
     for needed in 'getent libc-bin' "$python python3"; do

@@ -363,7 +363,7 @@ class Ways(Check):
         self.check_tree(tree, wanted, "by hand")
 
     def check_capabilities(self, seed: int) -> None:
-        """A file with capabilities, which are dropped only where that is asked for."""
+        """A file with capabilities, which are dropped only with --drop-capabilities."""
         tree = Tree(self.work, seed)
         program = os.path.join(tree.top, b"capable")
         shutil.copy(b"/bin/true", program)

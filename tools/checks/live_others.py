@@ -521,8 +521,8 @@ class Others(Check):
 
 
 def is_closed(found: State, most: int = 0) -> bool:
-    """Whether what of_root has found is a directory in MALLORY's folder that nobody else can enter, with so many files at
-    most."""
+    """Whether what of_root has found is a directory in MALLORY's folder that nobody else can enter, with at most `most`
+    files."""
     return (len(found) == 7 and isinstance(found[0], list) and len(found[0]) <= most
             and isinstance(found[4], int) and found[4] & 0o77 == 0)
 

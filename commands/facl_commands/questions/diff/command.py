@@ -246,7 +246,7 @@ def names_of(state: State) -> List[bytes]:
 
 
 def compare(command: Command, given: argparse.Namespace) -> Tuple[Compared, Optional[bytes]]:
-    """What differs, and the page where one is asked for."""
+    """What differs, and the page if `--page` is given."""
     program = find_program(given)
     old, new = read_state(os.fsencode(given.before)), read_state(os.fsencode(given.after))
     check_hosts(old, new, given)
