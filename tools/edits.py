@@ -19,7 +19,7 @@ An edit is tried once more, alone, where several had no verdict, and where its f
 another edit. A check that was killed by signal 9, as where memory runs out, is started once more.
 
 Prints a line for each edit; the last one is `N passed, M failed`. What each check printed is in out/logs/. The exit status is
-0 where none failed, 1 where one did, 2 where the words are others, and 128 and the signal's number where it is interrupted.
+0 if none failed, 1 if one did, 2 if the words are others, and 128 and the signal's number if it is interrupted.
 """
 from __future__ import annotations
 

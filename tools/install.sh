@@ -8,7 +8,7 @@
 # PREFIX is /usr/local. FILE is a program that is built; without --program the programs are crates/facl_cli/out/facl_cli
 # and crates/facl_linux_cli/out/facl_linux_cli, which tools/prove.py proves and builds. With --program alone there is no
 # facl_linux, and the commands answer with --acl5 alone. TEXT is what `facl --version` says of the programs. With DESTDIR in
-# the environment all goes below that folder. The exit status is 2 where the words are others, there is no program, or PREFIX
+# the environment all goes below that folder. The exit status is 2 if the words are others, there is no program, or PREFIX
 # cannot be written.
 set -eu
 top=$(cd "$(dirname "$0")/.." && pwd)

@@ -11,7 +11,7 @@ directory is mounted read-only and noexec: the kernel has to grant what facl-ask
 count so. With --answers it makes trees, of one seed after another, until that number of answers is compared: --answers 3000000 takes
 some ten minutes. --record writes what was found into docs/CHECKS.md.
 
-The exit status is 1 where an answer differs, 2 where the words are others.
+The exit status is 1 if an answer differs, 2 if the words are others.
 """
 from __future__ import annotations
 

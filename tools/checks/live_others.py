@@ -5,7 +5,7 @@ usage: tools/check.py live_others [--PART N].. [--seed N] [--folder DIR] [--reco
 
 It makes a folder of its own, and removes it; it needs the packages acl and strace. --help prints its parts.
 
-The exit status is 1 where something is not as it has to be, 2 where the words are others, a tool is not installed or it
+The exit status is 1 if something is not as it has to be, 2 if the words are others, a tool is not installed or it
 is not run as root.
 """
 from __future__ import annotations

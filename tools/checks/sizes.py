@@ -3,7 +3,7 @@
 usage: tools/check.py sizes PROGRAM [--limits] [--large] [--shapes [--full] [--runs N]] [--record] [WORD..]
 
 All three tables, or those that are given; with words, only what has one of them in its name. What is expected is
-composed from the rules of docs/SPECIFICATION.md. The exit status is 1 where something differs, 2 where the words are
+composed from the rules of docs/SPECIFICATION.md. The exit status is 1 if something differs, 2 if the words are
 others.
 
 --limits: each limit at its last value, and one above; all that the program prints is compared. It takes 700 MB of

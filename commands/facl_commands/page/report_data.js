@@ -95,7 +95,7 @@ function kindAt(file, isOld) { return (isOld ? kindBefore : kindOf)[file]; }
 function recordOf(file, isOld) { return kinds[kindAt(file, isOld)][2]; }
 function aboveOf(file, isOld) { return parents[file] < 0 ? data.start : (isOld ? innerBefore : inner)[parents[file]]; }
 
-// What the user of a place may do on a file alone, now or before the script; 0 where the file or the user is not there.
+// What the user of a place may do on a file alone, now or before the script; 0 if the file or the user is not there.
 function byteOf(file, place, isOld) { return rows[rowOfKind[kindAt(file, isOld)]][place]; }
 
 // The same along the path of the file, where that is asked: 1 is nothing but to be there.

@@ -45,7 +45,7 @@ the snapshot was made of are looked at. A user needs search on all directories a
 given. USER is a name or an id. Nothing is changed.
 """
 STATUS = """\
-The exit status is 0 where there is an answer; 1 where it is empty: nobody, or nothing; 2 where the words or the
+The exit status is 0 if there is an answer; 1 if it is empty: nobody, or nothing; 2 if the words or the
 snapshot cannot be used.
 
     facl-snapshot before /srv/project          first, as root
