@@ -1,4 +1,4 @@
-"""Does twenty jobs of a week on a real tree with local users and users of sssd, and compares their ends with the kernel.
+"""Does 22 jobs of a week on a real tree with local users and users of sssd, and compares their ends with the kernel.
 
 usage: tools/check.py jobs PROGRAM [JOB..] [--seed N] [--files N] [--record]      PROGRAM: facl_linux
 
