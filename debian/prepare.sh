@@ -3,7 +3,7 @@
 #
 # debian/facl.changelog has the version and the last changes by git, or those of debian/changelog where there is no .git.
 # debian/commit says what the programs are. Without FACL_PROGRAM and FACL_LINUX_PROGRAM in the environment tools/prove.py
-# proves and builds them, unless that is done and nothing has changed since. The exit status is 2 where files are not as
+# proves and builds them, unless that is done and nothing has changed since. The exit status is 2 if files are not as
 # they were committed, or a program is not there.
 set -eu
 top=$(cd "$(dirname "$0")/.." && pwd)

@@ -30,7 +30,7 @@ the first one takes.
 FOLDER is that of temporary files if it is left out; what is made in it is removed. Times are processor time, the best
 of the runs, as the most memory is the least; those of `live` and `snapshot` are the medians of the runs, with the time by the
 clock beside them. Standard error has how busy the machine is. What is aimed at is for 1,000,000 files and 1,000 users.
-FILES are from 102 on, USERS from 10 on. The exit status is 1 where the program refuses a line or another command fails, 2 where
+FILES are from 102 on, USERS from 10 on. The exit status is 1 if the program refuses a line or another command fails, 2 if
 the words are others, a tool is not installed, or `live` or `snapshot` is not run as root.
 """
 from __future__ import annotations

@@ -4,7 +4,7 @@
 usage: tools/check.py NAME WORD..      with --help as WORD: what the check NAME takes
 
 Without NAME, or where no check has it, it prints all checks, each with the first sentence at its head. The exit status is the
-check's, or 2 where there is no such check.
+check's, or 2 if there is no such check.
 """
 from __future__ import annotations
 

@@ -4,7 +4,7 @@
 # usage: tools/demo.sh [PROGRAM]      PROGRAM: one that is built already
 #
 # The first build proves every crate below the program (tools/prove.py). The exit status is the program's, 1, since the
-# session has refused lines; or 2 where it is not built.
+# session has refused lines; or 2 if it is not built.
 set -eu
 top=$(cd "$(dirname "$0")/.." && pwd)
 # shellcheck source=tools/lib/program.sh

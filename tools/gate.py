@@ -11,7 +11,7 @@ tries the wrong bodies of crates/NAME/wrong/ on lanes that are idle, and once `r
 an earlier run, which it does after it has built them, tools/check_commands.sh tests the commands by them.
 
 What `rt ci` prints is printed as it comes; what the others print, once it has ended. The last line is `N passed, M failed`, of
-all. The exit status is 0 where none failed, 1 where something did, and 128 and the signal's number where it is interrupted.
+all. The exit status is 0 if none failed, 1 if something did, and 128 and the signal's number if it is interrupted.
 """
 from __future__ import annotations
 

@@ -8,7 +8,7 @@
 # PREFIX is /usr/local. FILE is a program that is built; without --program the programs are crates/facl_cli/out/facl_cli
 # and crates/facl_linux_cli/out/facl_linux_cli, which tools/prove.py proves and builds. With --program alone there is no
 # facl_linux, and the commands answer with --acl5 alone. TEXT is what `facl --version` says of the programs. With DESTDIR in
-# the environment all goes below that folder. The exit status is 2 where the words are others, there is no program, or PREFIX
+# the environment all goes below that folder. The exit status is 2 if the words are others, there is no program, or PREFIX
 # cannot be written.
 set -eu
 top=$(cd "$(dirname "$0")/.." && pwd)
@@ -141,7 +141,7 @@ warn() {
     echo "$script_name: warning: $1" >&2
 }
 
-# say_what_is_missing: what the commands call, and where they are looked for
+# say_what_is_missing: what the commands call, with the package of each
 say_what_is_missing() {
     [ -n "$linux_program" ] || warn "without facl_linux (--linux-program) the commands answer with --acl5 alone"
     for needed in 'getent libc-bin' "$python python3"; do

@@ -7,7 +7,7 @@
 # Without --program the programs facl and facl_linux are proved and built by tools/prove.py, and the package says that they
 # were proved at its commit; the files have to be as they were committed. FILE and LINUX_FILE are programs that are built:
 # the package says so. dpkg-buildpackage makes it (debian/rules), and prints to standard error only where it fails. The exit
-# status is 2 where the words are others, a tool is not installed, or the program is not built.
+# status is 2 if the words are others, a tool is not installed, or the program is not built.
 set -eu
 top=$(cd "$(dirname "$0")/.." && pwd)
 # shellcheck source=tools/lib/program.sh

@@ -7,7 +7,7 @@ usage: tools/pages.py [--version VERSION] FOLDER        writes FOLDER/man1, man5
 A text is NAME.SECTION.md, of which the first line is `# NAME(SECTION): what it is`. It has headings, paragraphs, lists,
 tables of two columns, and blocks of examples. A page of a verb gets its usage and its options from the verb's parser. A
 line `<!-- cut FILE: SECTION / SUBSECTION -->` takes a section of another page as it is. facl-script(5) is docs/facl.1,
-and facl-commands(1) is docs/facl-commands.1. The exit status is 2 where the words are others, or a text has a section
+and facl-commands(1) is docs/facl-commands.1. The exit status is 2 if the words are others, or a text has a section
 that is not there.
 """
 from __future__ import annotations

@@ -19,8 +19,8 @@ links to the files of the crate and of those below it. Its kept work is moved th
 meanwhile.
 
 It prints to standard error how many crates are done, the minutes so far, and what it starts. What is printed of a crate
-goes to out/logs/. The exit status is 0 where all is built, 1 where a crate is not proved, 2 where the words are others,
-and 128 and the signal's number where it is interrupted; then no check runs on, and no lane is left.
+goes to out/logs/. The exit status is 0 if all is built, 1 if a crate is not proved, 2 if the words are others,
+and 128 and the signal's number if it is interrupted; then no check runs on, and no lane is left.
 """
 from __future__ import annotations
 

@@ -6,7 +6,7 @@
 # usage: tools/quick.sh
 #
 # It prints a line for each part as it ends, and what a part that failed printed. The last line says how many tests passed and
-# failed, and that nothing was proved. The exit status is 0 where none failed, 1 where one did or rt is not installed, and 128
-# and the signal's number where it is interrupted.
+# failed, and that nothing was proved. The exit status is 0 if none failed, 1 if one did or rt is not installed, and 128
+# and the signal's number if it is interrupted.
 set -eu
 PYTHONPATH=$(dirname "$0") exec python3 -B -m lib.quick

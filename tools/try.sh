@@ -6,7 +6,7 @@
 #
 # What the program prints comes on both streams when it has ended, and the exit status is the program's. A line before
 # it says on standard error that nothing is proved of it, and what it is allowed. Where it gives no answer, the status
-# is 3, and what rt printed is on standard error; it is 2 where the words are others.
+# is 3, and what rt printed is on standard error; it is 2 if the words are others.
 set -eu
 top=$(cd "$(dirname "$0")/.." && pwd)
 # shellcheck source=tools/lib/program.sh

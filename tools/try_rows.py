@@ -4,8 +4,8 @@
 usage: tools/try_rows.py [--linux] [--seconds N]      --linux: facl_linux in place of facl; N: that a row may take, 60
 
 Prints a line for each row, and of one that fails what it printed and what it has to; then, as `rt try --test` does, how many
-passed and failed. The exit status is 0 where none failed, 1 where one did or the program gave no answer, 2 where the words are
-others, and 128 and the signal's number where it is interrupted.
+passed and failed. The exit status is 0 if none failed, 1 if one did or the program gave no answer, 2 if the words are
+others, and 128 and the signal's number if it is interrupted.
 """
 from __future__ import annotations
 

@@ -10,7 +10,7 @@ takes minutes. A crate of tests, which nothing waits for, may have twice as many
 has, which are proved one after another.
 
 Prints for each crate how many crates it lists, how many are below it, its longest chain, and the ways from it. The exit
-status is 1 where a crate has more ways than that, or a longer chain than MAX_CHAIN, and 2 where the words are others.
+status is 1 if a crate has more ways than that, or a longer chain than MAX_CHAIN, and 2 if the words are others.
 Other scripts read crates.txt by the class Crates.
 """
 from __future__ import annotations

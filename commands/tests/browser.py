@@ -253,7 +253,7 @@ class Page:
         self.wait_until(lambda: self.evaluate("!!(%s)" % expression), expression, seconds)
 
     def settle(self) -> None:
-        """Waits until what was asked for is drawn."""
+        """Waits until the page is drawn."""
         self.evaluate("new Promise(done => requestAnimationFrame(() => requestAnimationFrame(done)))")
 
     def texts(self, selector: str) -> List[str]:

@@ -568,7 +568,7 @@ class Records(unittest.TestCase):
         self.assertEqual(self.walked(old, old), ([], old))
 
     def walked(self, old: List[bytes], new: List[bytes], size: int = 1000) -> Tuple[List[Pair], List[bytes]]:
-        """The pairs of listings that come so many records at once, and the records that are the same."""
+        """The pairs of listings that come `size` records at once, and the records that are the same."""
         readers = [RecordReader(iter([it[place : place + size] for place in range(0, len(it), size)])) for it in (old, new)]
         found = list(walk(readers[0], readers[1]))
         return [it for it in found if isinstance(it, Pair)], [record for it in found if not isinstance(it, Pair) for record in it]

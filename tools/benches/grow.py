@@ -1,7 +1,7 @@
 """How the time of lines grows: by files, labels, users, operands, depth and the entries of a list, one of them at a time.
 
-Each range has five sizes. An exponent is the slope of a line through all of them where both axes are logarithms: 0 where the time
-stays, 1 where it grows as the size does. The steepest is that between two neighbouring sizes, so a bend in the middle shows."""
+Each range has five sizes. An exponent is the slope of a line through all of them where both axes are logarithms: 0 if the time
+stays, 1 if it grows as the size does. The steepest is that between two neighbouring sizes, so a bend in the middle shows."""
 from __future__ import annotations
 
 import math

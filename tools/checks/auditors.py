@@ -10,7 +10,7 @@ each file alone by its descriptor. Of that are made, by sets alone, what each of
 whom it does not hold, on how many files and on which first; and all files of the findings of facl-audit that are about
 rights.
 
-The exit status is 1 where one of them differs, 2 where the words are others.
+The exit status is 1 if one of them differs, 2 if the words are others.
 """
 from __future__ import annotations
 

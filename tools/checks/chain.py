@@ -21,7 +21,7 @@ others) are listed at the end. What --stop names is listed, but neither shown no
 Prints each definition with its place and how many lines it has, and then the counts; with --names the names alone, with
 --text the definitions with their comments, with --count the counts alone. Lines are without comments, imports and blank
 ones. A name that nothing declares, imports or binds, and a form that is not read, is an error with its file and line. The
-exit status is then 1, as where a START or a DEFINITION is not there; it is 2 where the options are others. documents.py makes
+exit status is then 1, also if a START or a DEFINITION is not there; it is 2 if the options are others. documents.py makes
 the numbers of docs/READING.md by the function `rows`.
 """
 from __future__ import annotations

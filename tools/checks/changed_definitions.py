@@ -10,7 +10,7 @@ crates that TESTS names for its crate are run without a proof (`rt try --test`),
 contains one of the words are made, or all; of these, with --count, N that are spread evenly; N at a time (--jobs), in a
 copy each. A change takes a minute of processor time or more, since all crates are compiled for it. --list prints the
 changes, with those that are not to be made any more: their old text has to be once in their file. The exit status is 1
-where one was not seen, or is not to be made any more, 2 where the words are others.
+if one was not seen, or is not to be made any more, 2 if the words are others.
 """
 from __future__ import annotations
 

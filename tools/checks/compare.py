@@ -24,7 +24,7 @@ What is not compared, since the program does otherwise (NOTES of docs/facl.1 has
 - white space before a comment in a text of -X, where the real tool takes it for a part of the name.
 
 Other lines that the real tools treat in another way are left out and counted, with the reason. The exit status is 1
-where something differs, 2 where the words are others.
+if something differs, 2 if the words are others.
 """
 from __future__ import annotations
 

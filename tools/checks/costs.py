@@ -26,7 +26,7 @@ tools/lib/answers.py:
 It is never less than the verdicts that are new, or others alone or along the path. The verdicts of the index, and those
 along paths, are compared too. A session in which something differs is printed as the program reads it; where PROGRAM is
 given, it is cut down before to as few lines and files as differ. --verbose counts the lines by their kinds. The same
-seed gives the same lines. The exit status is 1 where something is not so, 2 where the words are others.
+seed gives the same lines. The exit status is 1 if something is not so, 2 if the words are others.
 """
 from __future__ import annotations
 

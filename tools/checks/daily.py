@@ -4,8 +4,8 @@ SIGKILL, sends a mail, and the next one leaves nothing of it.
 
 usage: tools/check.py daily [--PART N].. [--seed N] [--folder DIR] [--record] PROGRAM
 
---help prints its parts. commands/tests/test_daily_ends.py has each moment with stand-ins. The exit status is 1 where
-something is not as it has to be, 2 where the words are others, a tool is not installed or it is not run as root.
+--help prints its parts. commands/tests/test_daily_ends.py has each moment with stand-ins. The exit status is 1 if
+something is not as it has to be, 2 if the words are others, a tool is not installed or it is not run as root.
 """
 from __future__ import annotations
 

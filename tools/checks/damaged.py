@@ -8,8 +8,8 @@ then answers of what is there, or ends with status 2 and a message. It ends in t
 names a cause, changes no file that it was given and leaves none behind. facl-apply changes nothing, or does what the
 damaged plan says, and gives back with --undo what was there.
 
-It makes a folder of its own, and removes it. --help prints its parts. The exit status is 1 where something is not as it
-has to be, 2 where the words are others, a tool is not installed or it is not run as root.
+It makes a folder of its own, and removes it. --help prints its parts. The exit status is 1 if something is not as it
+has to be, 2 if the words are others, a tool is not installed or it is not run as root.
 """
 from __future__ import annotations
 

@@ -494,7 +494,7 @@ def is_built_in(text: str) -> bool:
 
 
 class Repository:
-    """The crates of a repository: their files of specs/, and the types of their sources, each as it is asked for."""
+    """The crates of a repository: their files of specs/, and the types of their sources, each read at its first use."""
 
     def __init__(self, top: str) -> None:
         self.top = top
@@ -702,7 +702,7 @@ def bounds_of(head: List[str]) -> Dict[str, List[str]]:
 
 
 class Statement(NamedTuple):
-    """A function with the clauses that are asked for, and what they name."""
+    """A function with the clauses that were chosen, and what they name."""
 
     function: Function
     source: Source

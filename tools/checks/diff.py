@@ -9,7 +9,7 @@ file alone, by edits, by records, and below a folder. What it says of each user 
 both snapshots; along paths a user has what is granted where `index` has search for the user on all directories above. The
 user whom it calls everybody else is one more there, of whom neither snapshot has the name or the ids.
 
-The exit status is 1 where an answer differs, 2 where the words are others.
+The exit status is 1 if an answer differs, 2 if the words are others.
 """
 from __future__ import annotations
 

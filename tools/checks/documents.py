@@ -23,7 +23,7 @@ usage: tools/check.py documents [--write | --files [CRATE].. | --index [CRATE]..
 - All documents: each link within the repository, each path that starts with a folder of it or of a crate, and each
   `tools/check.py NAME` leads to something; each name with `_` or `::` is a word of the sources, or of the tests of the commands.
 
-Prints `FILE:LINE: what is wrong`. The exit status is 1 where something is.
+Prints `FILE:LINE: what is wrong`. The exit status is 1 if something is.
 """
 from __future__ import annotations
 

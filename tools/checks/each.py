@@ -6,8 +6,8 @@ The tree is that of tools/lib/texts.py, 50,000 files and 20 users in five snapsh
 the seconds of each answer and the most memory, and compares each answer with that of one session where one takes the
 tree. --index asks for the index too, whose lines are files times users. With --split the tree is a real one with lists,
 and facl-snapshot --split makes the snapshots; that needs the package acl, and a file system with lists.
-It makes a folder of its own in FOLDER (/tmp), and removes it. The exit status is 1 where an answer is another one, a
-snapshot has too many files or a command fails, 2 where the words are others.
+It makes a folder of its own in FOLDER (/tmp), and removes it. The exit status is 1 if an answer is another one, a
+snapshot has too many files or a command fails, 2 if the words are others.
 """
 from __future__ import annotations
 

@@ -4,7 +4,7 @@ there.
 usage: tools/check.py edits_apply
 
 It tries no edit: `rt ci` does, tools/edits.py and tools/check.py wrong_commands. It prints `FILE: FAULT` for each edit with a fault. The exit
-status is 1 where there is one.
+status is 1 if there is one.
 """
 from __future__ import annotations
 

@@ -22,8 +22,8 @@ than a minute. Otherwise, or alone with --code, two things are looked at in the 
   nor the output is put in place with memory.
 
 It needs the kit, whose compiler makes the library of refuse_growth.c, and without --quick objdump of binutils. The exit
-status is 1 where one of these is not there, an answer is none that may be, a growth is found, or the program lacks one of
-these functions, 2 where the words are others.
+status is 1 if one of these is not there, an answer is none that may be, a growth is found, or the program lacks one of
+these functions, 2 if the words are others.
 """
 from __future__ import annotations
 

@@ -9,7 +9,7 @@ its page and without a traceback; what a person reads has no character that a te
 colours; JSON and rows have the name as it is, with its escapes; a plan changes this very file, and the undo of it gives its old
 list back; and no name is run. --help prints the parts.
 
-The exit status is 1 where something is not as it has to be, 2 where the words are others, a tool is not installed or it is not
+The exit status is 1 if something is not as it has to be, 2 if the words are others, a tool is not installed or it is not
 run as root.
 """
 from __future__ import annotations

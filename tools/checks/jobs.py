@@ -1,4 +1,4 @@
-"""Does twenty jobs of a week on a real tree with local users and users of sssd, and compares their ends with the kernel.
+"""Does 22 jobs of a week on a real tree with local users and users of sssd, and compares their ends with the kernel.
 
 usage: tools/check.py jobs PROGRAM [JOB..] [--seed N] [--files N] [--record]      PROGRAM: facl_linux
 
@@ -7,7 +7,7 @@ that no list has (enumerate = false). Each job is a function of lib/jobs_that_as
 lib/jobs_of_users.py, and gets a tree of N files (200) of its own, with lists, masks and closed directories; JOBs choose. One that
 asks compares its answer with access(2) as each user on each file, or with real renames; one that changes says who may have other
 rights then, and nobody else may have other rights than before. After each, access(2) has to be what `facl ask` answers of a
-snapshot that is made then. The exit status is 1 where something differs.
+snapshot that is made then. The exit status is 1 if something differs.
 """
 from __future__ import annotations
 

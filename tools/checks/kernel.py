@@ -8,10 +8,10 @@ As root: it makes a tree of N files (500) in a folder of its own, with lists, ma
 everybody else, as whom the kernel is asked with ids that nothing has. The kernel is asked by faccessat(2) as each user: of a file
 alone by its descriptor, along a path by its name; after facl-apply again. Then some files are immutable, some append-only, and a
 directory is mounted read-only and noexec: the kernel has to grant what facl-ask answers, but for w and x there, and facl-who has to
-count so. With --answers it makes trees, of one seed after another, until so many answers are compared: --answers 3000000 takes
+count so. With --answers it makes trees, of one seed after another, until that number of answers is compared: --answers 3000000 takes
 some ten minutes. --record writes what was found into docs/CHECKS.md.
 
-The exit status is 1 where an answer differs, 2 where the words are others.
+The exit status is 1 if an answer differs, 2 if the words are others.
 """
 from __future__ import annotations
 

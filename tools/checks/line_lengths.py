@@ -3,7 +3,7 @@
 usage: tools/check.py line_lengths [--write] [CRATE..]
 
 It reads the files of specs/ and proofs/ of these crates, or of all, and prints `FILE:LINE: N columns` for each longer line. The exit
-status is 1 where there is one.
+status is 1 if there is one.
 
 With --write the lines are broken: before an arrow, an operator, `then` or `else`, after `=`, a comma or `in`, or before an argument,
 where the fewest brackets are open. A later part is indented by four columns more than the declaration, alternative or field that it is

@@ -5,7 +5,7 @@ usage: tools/check.py live [--PART N].. [--seed N] [--folder DIR] [--record] PRO
 It makes a folder of its own, and removes it; users and groups are those of files of its own, so that no account is
 made. It needs the packages acl, strace, e2fsprogs, btrfs-progs and libcap2-bin. --help prints its parts.
 
-The exit status is 1 where something is not as it has to be, 2 where the words are others, a tool is not installed or it
+The exit status is 1 if something is not as it has to be, 2 if the words are others, a tool is not installed or it
 is not run as root.
 """
 from __future__ import annotations
@@ -363,7 +363,7 @@ class Ways(Check):
         self.check_tree(tree, wanted, "by hand")
 
     def check_capabilities(self, seed: int) -> None:
-        """A file with capabilities, which are dropped only where that is asked for."""
+        """A file with capabilities, which are dropped only with --drop-capabilities."""
         tree = Tree(self.work, seed)
         program = os.path.join(tree.top, b"capable")
         shutil.copy(b"/bin/true", program)

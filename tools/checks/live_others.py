@@ -5,7 +5,7 @@ usage: tools/check.py live_others [--PART N].. [--seed N] [--folder DIR] [--reco
 
 It makes a folder of its own, and removes it; it needs the packages acl and strace. --help prints its parts.
 
-The exit status is 1 where something is not as it has to be, 2 where the words are others, a tool is not installed or it
+The exit status is 1 if something is not as it has to be, 2 if the words are others, a tool is not installed or it
 is not run as root.
 """
 from __future__ import annotations
@@ -521,8 +521,8 @@ class Others(Check):
 
 
 def is_closed(found: State, most: int = 0) -> bool:
-    """Whether what of_root has found is a directory in MALLORY's folder that nobody else can enter, with so many files at
-    most."""
+    """Whether what of_root has found is a directory in MALLORY's folder that nobody else can enter, with at most `most`
+    files."""
     return (len(found) == 7 and isinstance(found[0], list) and len(found[0]) <= most
             and isinstance(found[4], int) and found[4] & 0o77 == 0)
 

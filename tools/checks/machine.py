@@ -17,7 +17,7 @@ programs that are built, of which tools/package.sh makes the package, unless FIL
   ssh       `facl ask --hosts` over two machines: both, another key, no facl there, a connection and a machine that end meanwhile
   cuts      as power, without a machine: --cuts N moments in the log of a disk of this system, on which each verb runs once
 
-The exit status is 1 where something is not as it has to be, 2 where the words are others. At its end, also by a signal, no
+The exit status is 1 if something is not as it has to be, 2 if the words are others. At its end, also by a signal, no
 machine, no disk beside those of DIR and no mount is left.
 """
 from __future__ import annotations

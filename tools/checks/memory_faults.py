@@ -16,7 +16,7 @@ that is not one of tests. Types, `use` and patterns may name what follows; of ex
 
 EXCEPTIONS has the other places: the one arm of a function, with its reason. One where nothing is found any more is a
 fault too.
-Prints `FILE:LINE: what is wrong`. The exit status is 1 where something is.
+Prints `FILE:LINE: what is wrong`. The exit status is 1 if something is.
 
 documents.py reads the sources by this file too: tokens, and functions with their clauses. It reads as much
 of Rattle as items need; the body of a function stays a list of tokens.

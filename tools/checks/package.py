@@ -5,7 +5,7 @@ usage: tools/check.py package [--before PACKAGE] [--record] FILE LINUX_FILE
 
 FILE and LINUX_FILE are programs that are built, and PACKAGE one that was made before, which is upgraded. It takes root, and
 the Debian packages debhelper, dh-python, dpkg-dev and lintian. What is installed goes into an overlay over this system,
-in a mount namespace, and is gone with it. The exit status is 1 where something is not as it has to be, 2 where the words
+in a mount namespace, and is gone with it. The exit status is 1 if something is not as it has to be, 2 if the words
 are others.
 """
 from __future__ import annotations

@@ -7,8 +7,8 @@ would see, and a guess by somebody who read the clauses: refused or accepted. Bu
 their crate, over the libraries that tools/prove.py proved, and these functions alone are checked, after the functions as they are
 (tools/edits.py).
 
-Prints a line for each bug: refused, or accepted with what a caller would see, or not tried and why. The exit status is 1 where one
-is accepted that was guessed to be refused, or is not tried, 2 where the words are others.
+Prints a line for each bug: refused, or accepted with what a caller would see, or not tried and why. The exit status is 1 if one
+is accepted that was guessed to be refused, or is not tried, 2 if the words are others.
 """
 from __future__ import annotations
 

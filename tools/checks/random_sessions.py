@@ -28,7 +28,7 @@ keeps two states: the one after the load, of which `changes` and `gains` tell wh
 the end it has to have at most a tenth more than it had after the load and a new session on the present state has,
 together; and to answer the same.
 
-The same seed gives the same lines. The exit status is 1 where something is not so, 2 where the words are others.
+The same seed gives the same lines. The exit status is 1 if something is not so, 2 if the words are others.
 """
 from __future__ import annotations
 

@@ -5,8 +5,8 @@ usage: tools/check.py report PROGRAM [--files N] [--users N] [--levels N] [--rec
 It opens the page of a chain of --levels directories (900), along which a user gets half the way, and measures that of
 --files files of few lists and --users users (5,000 and 20): how long it takes to write, to open and to search, and its
 size. commands/tests/test_browser.py has what a person does with a page. --picture makes README's picture alone, as
-docs/page.png; --record writes a row of docs/CHECKS.md. The exit status is 1 where something is not as it has to be, 2
-where Chromium is not installed.
+docs/page.png; --record writes a row of docs/CHECKS.md. The exit status is 1 if something is not as it has to be, 2
+if Chromium is not installed.
 """
 from __future__ import annotations
 

@@ -3,7 +3,7 @@
 usage: tools/check.py same_program PROGRAM [--record]
 
 PROGRAM is crates/facl_cli/out/facl_cli of a clone in which .ci/run has passed, at the commit that this one is at. The exit
-status is 1 where the two differ or a crate is not proved, 2 where the words are others.
+status is 1 if the two differ or a crate is not proved, 2 if the words are others.
 """
 from __future__ import annotations
 

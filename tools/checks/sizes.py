@@ -3,7 +3,7 @@
 usage: tools/check.py sizes PROGRAM [--limits] [--large] [--shapes [--full] [--runs N]] [--record] [WORD..]
 
 All three tables, or those that are given; with words, only what has one of them in its name. What is expected is
-composed from the rules of docs/SPECIFICATION.md. The exit status is 1 where something differs, 2 where the words are
+composed from the rules of docs/SPECIFICATION.md. The exit status is 1 if something differs, 2 if the words are
 others.
 
 --limits: each limit at its last value, and one above; all that the program prints is compared. It takes 700 MB of
@@ -13,8 +13,8 @@ memory and as much in the temporary folder.
 names of 200 bytes, paths of 4,000 components, lines of 65,536 bytes and thousands of words, texts of 10 MB. The
 messages are compared, so `no memory` is a failure. It takes 13 seconds and 500 MB.
 
---shapes: texts that the program loads, and steps of lines, over so many files, users, lines or bytes, whose messages
-are compared. The time of a step is to be at most 6 times that at a quarter of the size: as long as it grows by the
+--shapes: texts that the program loads, and steps of lines, over a number of files, users, lines or bytes,
+whose messages are compared. The time of a step is to be at most 6 times that at a quarter of the size: as long as it grows by the
 size, or by that and a logarithm, with room for noise and for memory that is out of the caches. Time is processor time
 of the program, the best of N runs (2), and of as many again where it grows by more; a step of less than 50 ms is not
 compared. Where each line of a step looks at everything, as a userdel, the number of lines stays, so the time of a line
@@ -45,7 +45,7 @@ LINE, SCRIPT, FILE, ID = 65_536, 67_108_864, 268_435_456, 4_294_967_294
 FOLDER, PLAIN = "user::rwx\ngroup::r-x\nother::r-x\n", "user::rw-\ngroup::r--\nother::---\n"
 # A line with its text, perhaps with the message that it has to have.
 Unit = Union[str, Tuple[str, str]]
-# Texts by the words for them; a number is a comment of so many bytes.
+# Texts by the words for them; a number is the length of a comment in bytes.
 Files = Dict[str, Union[str, int]]
 
 
@@ -58,7 +58,7 @@ def record(path: str, entries: str = PLAIN, owner: str = "u1", group: str = "g1"
 
 
 def padded(line: str, length: int = LINE, words: str = " ") -> str:
-    """A line of so many bytes at most, ended by as many of these words as fit."""
+    """A line of at most `length` bytes, ended by as many of `words` as fit."""
     return line + words * ((length - len(line)) // len(words))
 
 
@@ -82,7 +82,7 @@ def write_people(folder: str, users: int = 10, groups: int = 10, name: Callable[
 
 
 class Shape(NamedTuple):
-    """Texts that the program loads, and what it answers, over so many files, users, lines or bytes, or with --full. Its
+    """Texts that the program loads, and what it answers, over a number of files, users, lines or bytes, or with --full. Its
     times are compared with those at a part of the size, unless that is 1."""
 
     name: str
@@ -154,7 +154,7 @@ def fails(script: str, fault: str, files: Files = WORLD) -> Run:
 
 
 def base(count: int, prefix: str = "") -> List[str]:
-    """A list of so many entries: the base entries, a mask, and users by number."""
+    """A list of `count` entries: the base entries, a mask, and users by number."""
     named = (f"user:{FIRST + user}:r--" for user in range(count - 4))
     return [prefix + it for it in ["user::rwx", *named, "group::r--", "mask::r--", "other::---"]]
 
@@ -379,7 +379,7 @@ def long_path(k: int) -> str:
 
 
 def long_record(k: int, named: int) -> str:
-    """A record whose list has so many named users, by number, and a group."""
+    """A record whose list has `named` users, by number, and a group."""
     users = lines(f"user:{100_000 + 7 * k % 13 + it}:rw-" for it in range(named))
     entries = f"user::rw-\n{users}group::r--\ngroup:{user(k, 'g')}:r--\nmask::rw-\nother::---\n"
     return record(long_path(k), entries, "100001", "200001")
@@ -531,7 +531,7 @@ def of_loads(size: int) -> List[Expect]:
 
 
 def large(users: int) -> Callable[[str, int], None]:
-    """All groups, and so many users."""
+    """All groups, and `users` users."""
     return lambda folder, size: write_people(
         folder, users, MANY_PEOPLE, long_name, lambda k: (k % users, (7 * k + 1) % users))
 
@@ -588,7 +588,7 @@ def tree(files: int) -> Iterator[str]:
 
 
 def each_of(count: int, entries: str = "") -> Iterator[str]:
-    """So many files below the root, perhaps with one list."""
+    """`count` files below the root, perhaps with one list."""
     return below(record(f"f{k}", entries or named(k)) for k in range(count))
 
 
@@ -703,7 +703,7 @@ SHAPES = [
               (reverse_text(n) + "# file:\n.", f"setfacl: text line {4 * n + 1}: bad header")])]),
     Shape("one directory", "one directory with all files; 30 lines that change one, 30 that make one and remove it",
           lambda n: below([record("d/", FOLDER), *(record(f"d/f{k}", named(k)) for k in range(n))]), of_one_directory),
-    Shape("root changed", "the root's mode changed, and verdicts along paths asked for after it; 4 times", tree,
+    Shape("root changed", "the root's mode changed, and questions along paths after it; 4 times", tree,
           lambda n: [step("chmod ., --reach", [line for mode in ROOT_LINES * 2 for line in (
               mode, f"who --reach r {tree_path(n - 1)}", f"can --reach u2 {tree_path(n - 1)}", "may --reach u3 r")])]),
     Shape("all removed", "all directories removed by operands, some 50,000 bytes of them in a line", tree,
@@ -713,21 +713,21 @@ SHAPES = [
           lambda n: below((record(escaped_path(k), PLAIN, f"10000{k % 3}", f"20000{k % 3}") for k in range(n)),
                           "100000", "200000"), of_escaped_names,
           people=lambda folder, n: write_people(folder, 3, 3, lambda _, k: word(k, " \t", 100), lambda k: (k + 1,))),
-    Shape("deep path", "one path of so many names, nothing recorded above it but the root",
+    Shape("deep path", "one path of N names, nothing recorded above it but the root",
           lambda n: below([record("c/" * n, FOLDER)]), lambda n: of_deep_path("c/" * (n - 1) + "c"), (4_000, 32_000)),
     Shape("chain", "a chain of directories, each inside the last",
           lambda n: below(record("c/" * k, named(k - 1)) for k in range(1, n + 1)),
           lambda n: [*WALKED, *asked(["c/" * k for k in range(1, n + 1, max(1, n // 20))]), step("setfacl -m", [
               f"setfacl -m u:u{k}:7 {'c/' * min(n, 32_000)}" for k in range(10)]), step("chmod .", ROOT_LINES)],
           (2_000, 12_000), growth=2),
-    Shape("in the way", "one path of so many names, no directory of it recorded, and a file `!` beside each of them",
+    Shape("in the way", "one path of N names, no directory of it recorded, and a file `!` beside each of them",
           lambda n: below([*(record("a/" * k + "!") for k in range(1, n)), record("a/" * (n - 1) + "a")]),
           lambda n: [step("chmod", [f"chmod {mode} {'a/' * (n - 1)}a" for mode in (600, 644) * 5]),
                      step("why --reach", [f"why --reach u2 {'a/' * (n - 1)}a"] * 10)], (2_000, 8_000), growth=2),
     Shape("everybody everywhere", "200 users, all of them in all groups; 10 lines of each kind that changes users",
           lambda n: below(record(f"f{k}", named(k), group=f"g{n - 1 - k}") for k in range(50)), of_everybody,
           (16_384, 65_536), lambda folder, n: write_people(folder, 200, n, members=lambda k: range(200))),
-    Shape("repeated rows", "so many rows, all but ten of them repeated, and a row that names one user as often",
+    Shape("repeated rows", "N rows, all but ten of them repeated, and a row that names one user as often",
           lambda n: tree(10), lambda n: [step("gpasswd", [
               "gpasswd -d u2 g9", "gpasswd -a u2 g9", "gpasswd -a u3 g9"]), *asked(["."] * 10)],
           (200_000, 4_000_000), repeated_rows),
@@ -749,27 +749,27 @@ SHAPES = [
           lambda n: each_of(n, masked(range(10_000, 11_000), "g:%d:5")),
           lambda n: [step("setfacl -m", [f"setfacl -m u:u{k % 9}:7 f{k}" for k in range(20)]),
                      step("gpasswd", [f"gpasswd -a u{k} g{k - 1}" for k in range(2, 8)]), *WALKED], (1_000, 10_000)),
-    Shape("entries of a list", "lists of so many entries in falling order, in dumps and lines",
+    Shape("entries of a list", "lists of N entries in falling order, in dumps and lines",
           lambda n: each_of(100, masked(range(n + 9_995, 9_999, -1))),
           lambda n: of_lists([90_000 - k for k in range(n - 4)]), (4_096, 4_096)),
-    Shape("same operands", "a line of so many operands, all the same: a file, and a directory of 100 files with -R",
+    Shape("same operands", "a line of N operands, all the same: a file, and a directory of 100 files with -R",
           lambda n: below([record("d1/", FOLDER), *(record(f"d1/f{k}") for k in range(100))]),
           lambda n: [*operand_lines(["."] * n), *operand_lines(["d1"] * n, "-R")], (10_000, 10_000)),
-    Shape("nested operands", "a line of so many operands with -R, each inside the last one",
+    Shape("nested operands", "a line of N operands with -R, each inside the last one",
           lambda n: below([record("d/", FOLDER), *(record("d/" + word(k)[::-1]) for k in range(n))]),
           lambda n: operand_lines([*("d/" + word(k)[::-1] for k in reversed(range(n))), "d"], "-R"), (8_000, 8_000)),
-    Shape("different operands", "a line of so many operands, in no order",
+    Shape("different operands", "a line of N operands, in no order",
           lambda n: below(record(word(k)[::-1]) for k in range(n)), of_operands, (10_000, 10_000)),
-    Shape("filled lines", "lines of so many quotes, blanks and backslashes; 100 of each", lambda n: tree(10),
+    Shape("filled lines", "lines of N quotes, blanks and backslashes; 100 of each", lambda n: tree(10),
           of_filled_lines, (LINE, LINE)),
-    Shape("refused lines", "so many lines that are refused, each in one of eight ways", lambda n: tree(10),
+    Shape("refused lines", "N lines that are refused, each in one of eight ways", lambda n: tree(10),
           lambda n: [step("refused", REFUSED * (n // 8))], (200_000, 1_000_000)),
-    Shape("empty and endless", "so many bytes of empty lines, of one line, and of a text of one line",
+    Shape("empty and endless", "N bytes of empty lines, of one line, and of a text of one line",
           lambda n: tree(10), lambda n: [
               step("empty lines", ["\n" * (n - 1)]), step("one line", [("x" * n, "facl: line too long")]),
               step("a text line", [(f"setfacl -M - .\n{'x' * n}\n.", "facl: text line too long")])],
           (4_000_000, 20_000_000)),
-    Shape("many questions", "so many questions over 5,000 files", lambda n: tree(5_000),
+    Shape("many questions", "N questions over 5,000 files", lambda n: tree(5_000),
           lambda n: asked(some(5_000, n // 2), tables=False)),
 ]
 

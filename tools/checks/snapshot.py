@@ -4,7 +4,7 @@ leaves, and what the program answers of them, is compared with what has to be.
 usage: tools/check.py snapshot [--PART N].. [--seed N] [--folder DIR] [--record] PROGRAM
 
 It makes its files in a folder of its own, and asks about the user nobody. --help prints its parts; commands/tests/test_snapshot.py
-tries what needs no root and no lists. The exit status is 1 where something is not as it has to be, 2 where the words are
+tries what needs no root and no lists. The exit status is 1 if something is not as it has to be, 2 if the words are
 others, a tool is not installed or it is not run as root.
 """
 from __future__ import annotations

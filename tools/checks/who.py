@@ -10,7 +10,7 @@ else. facl-who has to give the same counts, first files, rows of --user, users o
 and named entries are compared with those that stat(2) and getfacl print.
 The mask of every other list that names somebody is empty. --record writes what was found into docs/CHECKS.md.
 
-The exit status is 1 where an answer differs, 2 where the words are others.
+The exit status is 1 if an answer differs, 2 if the words are others.
 """
 from __future__ import annotations
 

@@ -7,7 +7,7 @@ fail with their edit, since something is found and not since the file is no Pyth
 words are tried, or all; as root, since some tests need other users, by the programs of $FACL and $FACL_LINUX.
 
 Prints a line for each; the last one is `N passed, M failed`. An edit whose test is left out here, as where a package that it needs is
-not installed, is left out too. The exit status is 1 where one failed, or the tests do not pass without an edit.
+not installed, is left out too. The exit status is 1 if one failed, or the tests do not pass without an edit.
 """
 from __future__ import annotations
 

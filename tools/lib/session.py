@@ -129,7 +129,7 @@ class Session:
             return time.perf_counter() - self.started
 
     def memory_of(self, field: str) -> int:
-        """A count of bytes that the system has of the program; 0 where it has none."""
+        """A count of bytes that the system has of the program; 0 if it has none."""
         try:
             with open("/proc/%d/status" % self.run.pid, encoding="utf-8", errors="replace") as file:
                 return next((int(line.split()[1]) * 1024 for line in file if line.startswith(field)), 0)

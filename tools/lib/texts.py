@@ -1,6 +1,6 @@
 """Texts for checks and measurements: records written in a line each, a list as an attribute, and a tree of any size.
 
-The tree has so many records: the root, and directories of about a hundred plain files each. Each file has two named
+The tree has `files` records: the root, and directories of about a hundred plain files each. Each file has two named
 users, a named group and a mask; each directory a default list. There are a tenth as many groups as users.
 """
 from __future__ import annotations
@@ -16,7 +16,7 @@ def lines(them: Iterable[str]) -> str:
 
 
 def attribute(count: int, first: int = 100_000) -> str:
-    """The hex digits of a list of so many entries, its users from this one on."""
+    """The hex digits of a list of `count` entries, its users from `first` on."""
     users = "".join(f"02000400{(first + k).to_bytes(4, 'little').hex()}" for k in range(count - 4))
     return f"0200000001000700ffffffff{users}04000400ffffffff10000400ffffffff20000000ffffffff"
 

@@ -35,9 +35,9 @@ A file is opened without following a symbolic link, compared once more, and chan
 do to its name, no other file is changed. What it does not do is in PLAN/by_hand, which is not run.
 """
 STATUS = """\
-The exit status is 0 where it is done, and 3 where there is nothing to do; 1 where it is not done, and the files are
-as they were, or where --undo cannot bring a user back; 2 where the words, the plan or the system do not allow it, and nothing was changed; 4 where files are
-neither as they were nor as they should be: they are named; 5 where it is done, and that could not be written.
+The exit status is 0 if it is done, and 3 if there is nothing to do; 1 if it is not done, and the files are
+as they were, or if --undo cannot bring a user back; 2 if the words, the plan or the system do not allow it, and nothing was changed; 4 if files are
+neither as they were nor as they should be: they are named; 5 if it is done, and that could not be written.
 """
 
 

@@ -53,8 +53,8 @@ side, by ssh, and each line of an answer and each message begins with the NAME. 
 does not answer in time has a message, and the others' answers are given.
 """
 STATUS = """\
-The exit status is that of facl: 0 where every line was accepted, 1 where some line was refused, 2 where it ended
-early, or where the words, the snapshot or a script cannot be used. A prompt ends with 0.
+The exit status is that of facl: 0 if every line was accepted, 1 if some line was refused, 2 if it ended
+early, or if the words, the snapshot or a script cannot be used. A prompt ends with 0.
 """
 
 

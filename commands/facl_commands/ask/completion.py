@@ -108,7 +108,7 @@ class Completer:
         self.known: Optional[CompletedPaths] = None
 
     def paths(self) -> CompletedPaths:
-        """Read when they are first asked for."""
+        """Read at the first call."""
         if self.known is None:
             self.known = CompletedPaths(self.dump())
         return self.known

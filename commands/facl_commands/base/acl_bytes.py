@@ -104,7 +104,7 @@ def common(one: bytes, other: bytes) -> bytes:
 
 
 def changed(one: bytes, other: bytes) -> Iterator[Tuple[Key, Tuple[int, int]]]:
-    """The keys of two lists that differ, each with its permissions in both, -1 where a list lacks it."""
+    """The keys of two lists that differ, each with its permissions in both, -1 if a list lacks it."""
     first, second = entries_of(one) if one else {}, entries_of(other) if other else {}
     both = ((key, (first.get(key, -1), second.get(key, -1))) for key in sorted({**first, **second}))
     return ((key, (before, after)) for key, (before, after) in both if before != after)

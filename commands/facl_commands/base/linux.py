@@ -36,16 +36,16 @@ PR_SET_PDEATHSIG = 1
 MOUNTS_FILE = "/proc/self/mountinfo"
 BOOT_FILE = "/proc/sys/kernel/random/boot_id"
 SERVER = re.compile(rb" - fuse\S* \S+ (?:\S*,)?user_id=([0-9]+)")  # In a line of a mount.
-# Of a file: mode, owner, group, names, device, inode, and birth in nanoseconds since 1970, 0 where the file system has none.
+# Of a file: mode, owner, group, names, device, inode, and birth in nanoseconds since 1970, 0 if the file system has none.
 Status = Tuple[int, int, int, int, int, int, int]
-Mount = Tuple[int, int]  # A device, and the number of the mount, which is 0 where Linux does not say it.
+Mount = Tuple[int, int]  # A device, and the number of the mount, which is 0 if Linux does not say it.
 # What Linux looks at beside the lists of a file: ATTRIBUTES that it has, or UNKNOWN; and what it is mounted by.
 Beside = Tuple[int, Mount]
 Raw = Tuple[int, int, int, bytes, int, int, int, int, bytes]  # A status as STATX has it.
 
 
 class Identity(NamedTuple):
-    """Which file a name is of; birth is when it was made, in nanoseconds since 1970, or 0 where that is not known."""
+    """Which file a name is of; birth is when it was made, in nanoseconds since 1970, or 0 if that is not known."""
 
     device: int
     inode: int
@@ -62,7 +62,7 @@ def keeps_births(major: int, minor: int) -> bool:
 
 
 def file_system_of(descriptor: int) -> int:
-    """The kind of the file system of an open file; 0 where that is not known."""
+    """The kind of the file system of an open file; 0 if that is not known."""
     statfs = getattr(LIBRARY, "fstatfs", None)
     return 0 if statfs is None or statfs(descriptor, BUFFER) != 0 else int.from_bytes(BUFFER.raw[:4], "little")
 

@@ -47,7 +47,7 @@ def read_path(text: bytes) -> bytes:
 
 
 def number_of(digits: bytes) -> int:
-    """The number of decimal digits; of so many that it is above all ids, one that is."""
+    """The number of decimal digits; if it has more digits than any id, a number above all ids."""
     plain = digits.lstrip(b"0") or b"0"  # Python takes no more than 4,300 digits, zeros too.
     return int(plain) if len(plain) <= LONGEST_ID else ABOVE_ALL_IDS
 

@@ -41,7 +41,7 @@ DIR has to belong to the caller, and nobody else may be able to write there or a
 sticky. Of two runs at once the later one ends with status 2. A snapshot is kept, and the next one compared with it, only once
 what changed was printed or mailed. What a run leaves that SIGKILL or a power failure ended, the next run removes, and says so.
 
-The exit status is 0 where there is nothing to look at, 1 where there is, and 2 where the snapshot is not made, or
+The exit status is 0 if there is nothing to look at, 1 if there is, and 2 if the snapshot is not made, or
 something could not be asked or sent; that is said too. A signal gives 128 and its number.
 """
 OPTIONS = ("--folder", "--keep", "--rules", "--accepted", "--weight", "--fail-on", "--mail", "--split", "--snapshot")

@@ -117,7 +117,7 @@ def free_ids(rows: bytes, used: Set[bytes]) -> Iterator[int]:
 
 
 def place_of_user(words: List[bytes]) -> int:
-    """Where a question about one user has everybody else; 0 where it does not."""
+    """Where a question about one user has everybody else; 0 if it does not."""
     tool, line = words[0] if words else b"", split(words)
     names = options_with(tool, USER) if tool in QUESTIONS else frozenset()
     if line.value(*names) == SHOWN:

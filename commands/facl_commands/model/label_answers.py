@@ -38,7 +38,7 @@ def dump_of(bodies: List[bytes]) -> bytes:
 
 
 def operands_of(count: int) -> List[bytes]:
-    """The names of so many files in their order, as the operands of lines that have room for them."""
+    """The names of `count` files in their order, as the operands of lines that have room for them."""
     return list(map(b" ".join, parts_of(WORD % k for k in range(count))))
 
 
@@ -48,7 +48,7 @@ def ask_records(session: Session, lines: Iterable[bytes]) -> List[bytes]:
 
 
 def vectors_of(table: OutputSlice, users: List[bytes], count: int) -> List[Vector]:
-    """What an index has of each of so many files. The lines of a file follow each other, and those of a user have one length."""
+    """What an index has of each of `count` files. The lines of a file follow each other, and those of a user have one length."""
     form = struct.Struct("".join("2s%dx" % len(b" " + user + b" " + WORD % 0 + b"\n") for user in users))
     if table.end - table.start != form.size * count:
         raise Failure(b"the program does not list the users and files of `index` in their order")

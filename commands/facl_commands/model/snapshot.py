@@ -36,8 +36,8 @@ def read_links(text: bytes) -> List[List[bytes]]:
 class InodeCounts(NamedTuple):
     """What the file inodes has."""
 
-    names: int  # How many,
-    files: int  # of so many files.
+    names: int  # How many names,
+    files: int  # and of how many files.
     found: Mapping[bytes, Tuple[int, ...]]  # By path: device and inode first, at least of names that are in links.
 
 

@@ -33,8 +33,8 @@ SCRIPT - is standard input. With --for-review it is the page of one folder for i
 a box at each entry that can go.
 """
 STATUS = """\
-The exit status is 0 where the page is written; 1 where lines were refused: then none is; 2 where the words, the
-snapshot or a script cannot be used, or FILE cannot be made; 5 where FILE is written, and a message was not.
+The exit status is 0 if the page is written; 1 if lines were refused: then none is; 2 if the words, the
+snapshot or a script cannot be used, or FILE cannot be made; 5 if FILE is written, and a message was not.
 """
 
 

@@ -95,7 +95,7 @@ function kindAt(file, isOld) { return (isOld ? kindBefore : kindOf)[file]; }
 function recordOf(file, isOld) { return kinds[kindAt(file, isOld)][2]; }
 function aboveOf(file, isOld) { return parents[file] < 0 ? data.start : (isOld ? innerBefore : inner)[parents[file]]; }
 
-// What the user of a place may do on a file alone, now or before the script; 0 where the file or the user is not there.
+// What the user of a place may do on a file alone, now or before the script; 0 if the file or the user is not there.
 function byteOf(file, place, isOld) { return rows[rowOfKind[kindAt(file, isOld)]][place]; }
 
 // The same along the path of the file, where that is asked: 1 is nothing but to be there.
@@ -161,7 +161,7 @@ function levelsText(counts) {
   return LEVELS.map((name, level) => [counts[level], name]).filter(([count]) => count).map(([count, name]) => numbered(count) + " " + name).join(", ");
 }
 
-// The files in a directory, or for NONE those that no directory is above; at most so many.
+// The files in a directory, or for NONE those that no directory is above; at most `most`.
 function inside(folder, most) {
   const found = [], end = folder < 0 ? files : folder + sizes[folder];
   for (let file = folder + 1; file < end && found.length < most; file += sizes[file]) found.push(file);
@@ -190,7 +190,7 @@ function fileAt(path) {
 // The names in small letters, with their ends, which the search makes once.
 const small = {};
 
-// The end of the path of what is in a directory, in small letters, with so many slashes at least.
+// The end of the path of what is in a directory, in small letters, with at least `slashes` slashes.
 function endOfPath(folder, slashes) {
   let path = "", it = folder;
   for (let count = 0; it >= 0 && count <= slashes; it = parents[it]) {

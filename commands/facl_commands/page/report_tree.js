@@ -28,7 +28,7 @@ function findAlike() {
   }
 }
 
-// Opens directories from the top down, as long as that makes no more than so many rows.
+// Opens directories from the top down, as long as that makes at most `left` rows.
 function openFirst(left) {
   const coming = inside(NONE, files);
   for (const file of coming) {

@@ -4,7 +4,7 @@ const {parents, names, lists} = data.files; // By file, in path order: what it i
 const FIRST = 3; // Names of files, and
 const FEW = 12; // names of people, that are shown at once;
 const MOST = 1000; // names of files that can be shown,
-const LISTS = 200; // and lists, until more are asked for.
+const LISTS = 200; // and lists, until a person has more shown.
 const ROOM = 60000; // Bytes of entries and names in a line of a script, which may have 65,536;
 const KEYS_ROOM = 20000; // and of entries alone.
 const FOR_PLAN = "# for facl plan, not for a shell"; // As in findings.py.
@@ -154,7 +154,7 @@ function drawPeople() {
   return box;
 }
 
-// The names of the files of a list: the first ones, and all of them where they are asked for.
+// The names of the files of a list: the first ones, and all of them once a person opens the rest.
 function namesOf(files) {
   const first = files.slice(0, FIRST).map(shownPath);
   const box = element("div", {className: "files"}, element("span", {className: "name", textContent: first.join(", ")}));

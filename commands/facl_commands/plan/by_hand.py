@@ -29,7 +29,7 @@ HEAD = b"""\
 %(blind)s#
 # Where something is another, it stops with the status 1: mend that, and run it again. What is done is in by_hand_done, and is
 # not done twice. After a kill a folder .facl.* may be left: move back what was taken there, and remove it. The status is 2
-# where somebody else may have written the plan, that of the tool where one fails, and 1 where something has to be done in a
+# where somebody else may have written the plan, that of the tool where one fails, and 1 if something has to be done in a
 # directory service, which is named: the tools change rows of /etc/passwd and /etc/group alone.
 """
 BLIND = b"""\
@@ -45,7 +45,7 @@ UNDO_HEAD = b"""\
 # looked up as by_hand does it.
 %(blind)s#
 # Where something is not as by_hand left it, it is left so and said, the others are taken back, and the status is 1. So it is if
-# by_hand removed users or files: they do not come back. The status is 2 where somebody else may have written the plan.
+# by_hand removed users or files: they do not come back. The status is 2 if somebody else may have written the plan.
 #
 # userdel removes the user's row, memberships and mail, and a group of the user's name that nobody else has; the home
 # directory and the files stay, with the number of the user as their owner.

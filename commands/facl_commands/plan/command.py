@@ -49,8 +49,8 @@ Questions in a SCRIPT are answered, and are no part of the plan. An edit of a fi
 snapshot is planned for all of them.
 """
 STATUS = """\
-The exit status is 0 where there is something to do, and 3 where there is nothing; 1 where lines were refused: then no
-plan is written, but with --keep-going; 2 where the words, the snapshot or a script cannot be used; 5 where the plan is
+The exit status is 0 if there is something to do, and 3 if there is nothing; 1 if lines were refused: then no
+plan is written, but with --keep-going; 2 if the words, the snapshot or a script cannot be used; 5 if the plan is
 written, and what is printed of it could not be.
 """
 

@@ -2,7 +2,7 @@
 
 Of the names of links a line can touch, or look at, those that are one of its words and, where it goes to whole
 subtrees, those below one; any word is taken for a path, and so is the name in each record of its text. After a line
-that edits these names are asked for. What one name got the others get before a line can touch them or look at them, and
+that edits, the program lists these names. What one name got the others get before a line can touch them or look at them, and
 at the end."""
 from __future__ import annotations
 

@@ -68,7 +68,7 @@ def text_of(paths: Iterable[bytes], numbers: Iterable[Sequence[int]], **fields: 
 
 
 def columns_of(rows: object, count: int) -> Tuple[List[bytes], List[Sequence[int]]]:
-    """The paths of rows, and their columns of so many numbers; ValueError or TypeError where they are none."""
+    """The paths of rows, and their `count` columns of numbers; ValueError or TypeError if `rows` is something else."""
     if not isinstance(rows, list) or not set(map(len, rows)) <= {count + 1}:
         raise TypeError
     columns: List[Sequence[Any]] = list(zip(*rows)) if rows else [[] for _ in range(count + 1)]

@@ -167,7 +167,7 @@ def limited(found: Iterable[Walked], left_out: LeftOut, most: int) -> Iterator[W
 
 
 def record(found: Iterable[Walked], made: int, count: Optional[int], left_out: LeftOut) -> List[Recording]:
-    """Writes one snapshot, or several of so many files each; counts what is left out of all."""
+    """Writes one snapshot, or several of `count` files each; counts what is left out of all."""
     if count is None:
         whole = Recording(made)
         for walked in limited(found, left_out, scopes.MOST_FILES):

@@ -35,7 +35,7 @@ can be read.
   --readers GROUP   lets this group read the snapshot: folders have the mode 0750, files 0640, in place of 0700 and 0600
   --program FILE    the program that has to load the snapshot; without it $FACL, or facl on the path
   --help            prints this
-  --version         prints the version of facl; it is 0 where facl is not installed
+  --version         prints the version of facl; it is 0 if facl is not installed
 
 Each name comes once, in the order of paths. Symbolic links are counted and left out: none is followed, but a FOLDER that is
 one is taken as what it leads to. A name of more than 4,095 bytes counts as a file that could not be read, and below it a GLOB
@@ -51,9 +51,9 @@ to belong to root or to the caller, and nobody else may be able to write there, 
 All is made in a new folder beside DIR, DIR.XXXXXX, and put in place when it is complete. Only SIGKILL leaves that folder, and a
 replaced snapshot may then be in it, as `old`.
 
-The exit status is 0 where the snapshot is made; 1 where it is made, but lacks files, or users and groups (asking for them takes
+The exit status is 0 if the snapshot is made; 1 if it is made, but lacks files, or users and groups (asking for them takes
 five minutes at most, for 262,144 ids at most), has no people, or is not loaded by the program, and then it replaces none; 2
-where none is made, and DIR is as it was; 5 where it is made, and that could not be printed.
+if none is made, and DIR is as it was; 5 if it is made, and that could not be printed.
 """
 TAKING = ("--exclude", "--users", "--program", "--readers", "--split")  # A word after them, or after a sign.
 MOST_IN_PART = re.compile("[1-9][0-9]{0,6}")

@@ -42,8 +42,8 @@ nothing is said.
 The findings:
 """
 STATUS = """\
-The exit status is 1 where something of the weight of --fail-on, or of a greater one, is found and not accepted; 0 where
-not; 2 where the words, the snapshot or FILE cannot be used.
+The exit status is 1 if something of the weight of --fail-on, or of a greater one, is found and not accepted; 0 if
+not; 2 if the words, the snapshot or FILE cannot be used.
 
     facl-snapshot before /srv/project                       first, as root
     facl-audit before                                       what is wrong

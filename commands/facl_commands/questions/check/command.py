@@ -36,7 +36,7 @@ A rule that does not hold is printed with the users for whom it does not, the fi
 there, and who else may. With --write the rules that hold are printed, of FOLDERs in place of RULES, as a start.
 """
 STATUS = """\
-The exit status is 0 where all rules hold, 1 where one does not, 2 where the words, the snapshot or a rule cannot be
+The exit status is 0 if all rules hold, 1 if one does not, 2 if the words, the snapshot or a rule cannot be
 used: a rule with a name or a path that the snapshot does not have is never passed over.
 
     facl-snapshot before /srv/project                       first, as root

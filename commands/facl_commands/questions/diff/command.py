@@ -51,7 +51,7 @@ out, and root. A folder of the parts that facl-snapshot --split makes is compare
 no parts.
 """
 STATUS = """\
-The exit status is 0 where nobody of those who are looked at gained or lost anything, 1 where somebody did, and 2 where
+The exit status is 0 if nobody of those who are looked at gained or lost anything, 1 if somebody did, and 2 if
 the words or the snapshots cannot be used.
 """
 
@@ -246,7 +246,7 @@ def names_of(state: State) -> List[bytes]:
 
 
 def compare(command: Command, given: argparse.Namespace) -> Tuple[Compared, Optional[bytes]]:
-    """What differs, and the page where one is asked for."""
+    """What differs, and the page if `--page` is given."""
     program = find_program(given)
     old, new = read_state(os.fsencode(given.before)), read_state(os.fsencode(given.after))
     check_hosts(old, new, given)

@@ -15,7 +15,7 @@ from ...program.session import Session, parts_of
 from .states import Members, Pair, State, members_of
 
 SCRIPT_LIMIT = 60 << 20  # A run of the program takes 64 MiB, of which questions have a part.
-AT_ONCE = 500  # Lines that are sent at once: the messages of so many have room in a pipe.
+AT_ONCE = 500  # Lines that are sent at once: their messages have room in a pipe.
 GROUP_ROW = b"%s:x:%d:\n"
 NUMBER = re.compile(IN_LINE.replace(b"%d", b"[0-9]+"))  # Of a line, in a message.
 

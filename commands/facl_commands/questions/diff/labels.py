@@ -19,7 +19,7 @@ from ...program.session import session_over
 from .shapes import GONE, NONE, Counted, Shape, Shapes
 from .states import State, members_of
 
-CELLS_AT_ONCE = 4_000_000  # Bytes of `index` that one session is asked for,
+CELLS_AT_ONCE = 4_000_000  # The most bytes of `index` of one session,
 MOST_CELLS = 200_000_000  # and all of them: some minutes.
 TEXTS = [ABSENT, *GRANTED[1:]]  # By a byte of `index`; 0 is where the user or the file is not there.
 

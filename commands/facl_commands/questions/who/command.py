@@ -35,7 +35,7 @@ WITHOUT_FOLDERS = ("--remove", "--new-file")
 HELP = """\
 Says who may do what with the files of a snapshot: a row for each person, with the number of files at or below the
 FOLDERs, the first of them, and the entries of its list by which the person may. PERMS is read, write, enter, or
-letters of rwx, which are asked for at once. By other options: what one user may do, by folder; which files somebody
+letters of rwx, granted together. By other options: what one user may do, by folder; which files somebody
 owns, or is named on; who can remove a file; which lists a new file and a new folder of a user get.
 
 The row `everybody else` comes first: what a user may do whom no list names, as one whom the snapshot does not have.
@@ -45,7 +45,7 @@ the snapshot was made of are looked at. A user needs search on all directories a
 given. USER is a name or an id. Nothing is changed.
 """
 STATUS = """\
-The exit status is 0 where there is an answer; 1 where it is empty: nobody, or nothing; 2 where the words or the
+The exit status is 0 if there is an answer; 1 if it is empty: nobody, or nothing; 2 if the words or the
 snapshot cannot be used.
 
     facl-snapshot before /srv/project          first, as root
@@ -56,7 +56,7 @@ snapshot cannot be used.
 
 
 def question_of(words: List[str]) -> str:
-    """The option that names the question; nothing where PERMS is asked for."""
+    """The option that names the question; nothing if the question is PERMS."""
     options = words[: words.index("--")] if "--" in words else words
     return next((name for name in QUESTIONS for word in options
                  if name and (word == name or word.startswith(name + "="))), "")
