@@ -590,6 +590,17 @@ def find(kind, make, place, key):
         self.expect_status(done, 0, b"users with an id that another user has too, as ID NAME: 2, first: 70001 ann\n")
         self.assertEqual([row[:5] for row in self.read("new/passwd").splitlines() if b":70001:70001:" in row], [b"ann:x", b"anna:"])
 
+    def test_groups_of_one_name(self) -> None:
+        """A user is in the groups of all rows that name the user, as initgroups(3) has it: the program counts one row of a name."""
+        self.write("group.list", self.groups + b"lab:x:500:ann\nlab:x:500:finn,ann\nlab:x:501:ann\n501:x:7:ann\nlab:x:501:finn\n")
+        done = self.snapshot("new", "tree")
+        self.expect_status(done, 0, b"groups with a name that another group has too, of which facl names the others by their ids, "
+                                    b"as ID NAME: 3, first: 500 lab\n")
+        rows = self.read("new/group").splitlines()
+        for row in (b"lab:x:500:ann,finn", b"501:x:501:ann,finn", b"7:x:7:ann", b"70101:x:70101:carl,4711"):
+            self.assertIn(row, rows)
+        self.assertEqual(len({row.split(b":")[0] for row in rows}), len(rows))
+
     def test_where_they_are_missing(self) -> None:
         """It says what to do, with --quiet too."""
         text = b"name those of a directory service by --users FILE, or have it list them"
