@@ -95,7 +95,7 @@ class Asker:
         """What is said of a file that has other names in the snapshot: the directories above these may be open."""
         links = read_links(folder_of(self.session.folder).optional(b"links"))
         names = [self.name_of(it) for its in links if path in its for it in its if it != path]
-        return [b"is the same file as " + few(names) + b", by which others may get to it"] if names else []
+        return [b"is the same file as " + few(names) + b": look at that name too"] if names else []
 
     def spoken(self, folders: List[bytes]) -> bytes:
         """Some folders in a message."""
