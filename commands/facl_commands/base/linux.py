@@ -72,8 +72,8 @@ def is_read_only(descriptor: int) -> bool:
     say it, and access(2) has EROFS for everybody."""
     if os.fstatvfs(descriptor).f_flag & os.ST_RDONLY:
         return True
-    return (file_system_of(descriptor) == BTRFS and LIBRARY.access(b"/proc/self/fd/%d" % descriptor, os.W_OK) != 0
-            and ctypes.get_errno() == errno.EROFS)
+    is_refused = file_system_of(descriptor) == BTRFS and LIBRARY.access(b"/proc/self/fd/%d" % descriptor, os.W_OK) != 0
+    return bool(is_refused and ctypes.get_errno() == errno.EROFS)
 
 
 def overlay_of(descriptor: int, device: int) -> int:
