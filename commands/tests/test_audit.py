@@ -17,7 +17,10 @@ from page_data import read_data
 from small_tree import CLEAN, GROUP, PASSWD, SmallTree
 
 from facl_commands.base.programs import LINUX
+from facl_commands.model.entries import NamesOfIds, read_record
+from facl_commands.model.records import File
 from facl_commands.questions.audit import findings
+from facl_commands.questions.audit.lists import SET_GROUP, without_flag
 
 PLAIN = b"# owner: 1001\n# group: 2001\nuser::rw-\ngroup::rw-\nother::---\n"
 FOLDER = b"# owner: 0\n# group: 2001\nuser::rwx\ngroup::rwx\nother::---\n"
@@ -393,6 +396,18 @@ all lines of one: facl audit fix readable-by-everybody -s small >edits; facl pla
         ids = b"".join(b"m%d:x:%d:\n" % (number, number) for number in (1_000_000_000, 4_294_967_294))
         self.take({FILE: PLAIN.replace(b"owner: 1001", b"owner: 4294967294")}, group=GROUP + ids + b"hall:x:2009:facl-everybody-else\n")
         self.assertEqual([row[1] for row in self.rows()], [b"owner-without-row"])
+
+
+class SetGroup(Audits):
+    def test_where_the_group_class_may_not_execute(self) -> None:
+        """Linux does not run such a file with the rights of its group (execve(2)); the second digit of the mode, which is the mask
+        where there is one, says it."""
+        record = b"# owner: 1001\n# group: 2001\n# flags: -s-\nuser::rwx\n%sother::r-x\n"
+        for entries, is_found in ((b"group::r-x\n", True), (b"group::r--\n", False), (b"user:1009:rwx\ngroup::r-x\nmask::rw-\n", False),
+                                  (b"user:1009:rwx\ngroup::r--\nmask::r-x\n", True)):
+            file = File(False, record % entries)
+            mend = without_flag(SET_GROUP, file, read_record(file.body), NamesOfIds(b"", b""))
+            self.assertEqual(mend is not None, is_found, entries)
 
 
 class TwoKinds(Audits):

@@ -15,6 +15,10 @@ from typing import List
 from common import COMMANDS, Done, restore_signals
 from small_tree import GROUP, PASSWD, SmallTree
 
+from facl_commands.model.snapshot import read_links
+from facl_commands.questions.check.answers import names_beside
+from facl_commands.questions.check.rules import ALWAYS, NEVER, ONLY, READ, Rule
+
 FOLDER = b"# owner: 0\n# group: 2001\nuser::rwx\nuser:1009:%s\ngroup::rwx\nmask::rwx\nother::--x\n"
 FILE = b"# owner: 1001\n# group: 2001\nuser::rw-\nuser:1009:r--\ngroup::rw-\nmask::%s\nother::---\n"
 TREE = {
@@ -56,6 +60,28 @@ class Checks(SmallTree):
     def broken(self, rule: bytes, *options: str) -> List[bytes]:
         """For whom a rule does not hold, each with the number of files and the first."""
         return [b" ".join(row[2:5]) for row in self.rows(rule + b"\n", *options)]
+
+
+class OtherNames(Checks):
+    LINKS = b"/srv/a/one\n/srv/b/one\n\n/srv/a/x\n/srv/a/y\n\n/srv/a/dir/\n/srv/c/\n"
+
+    def test_names_that_a_rule_is_not_about(self) -> None:
+        """A file is read by any of its names: `always` asks for each name that is meant alone."""
+        links = read_links(self.LINKS)
+        pairs = [(b"srv/a/one", b"srv/b/one"), (b"srv/a/dir", b"srv/c")]
+        for kind, path, is_below, found in (
+                (NEVER, b"srv/a", False, pairs), (ONLY, b"srv/a", True, pairs), (ALWAYS, b"srv/a", False, []), (NEVER, b"", False, []),
+                (NEVER, b"srv/a/one", False, pairs[:1]), (NEVER, b"srv/a/x", False, [(b"srv/a/x", b"srv/a/y")]),
+                (NEVER, b"srv/c", True, []), (NEVER, b"srv/c", False, [(b"srv/c", b"srv/a/dir")])):
+            rule = Rule(1, [], kind, set(), False, READ, path, is_below)
+            self.assertEqual(names_beside(rule, links), found, (kind, path, is_below))
+
+    def test_they_are_said(self) -> None:
+        self.write("small/links", b"/srv/hr/cases/full/three\n/srv/hr/cases/one\n")
+        done = self.check(b"never carl read srv/hr\nnever carl read srv/hr/cases/full\n")
+        self.assertEqual((done.status, done.messages), (0, b"facl-check: warning: line 2: the rule is not about all names of 1 file, "
+                                                        b"first: /srv/hr/cases/full/three, which is /srv/hr/cases/one too\n"), done)
+        self.assertEqual(self.check(b"never carl read srv/hr/cases/full\n", "--quiet").messages, b"")
 
 
 class Forms(Checks):

@@ -3,13 +3,17 @@ snapshots, answers, pages, plans and facl-apply. File systems are played by code
 are in tools/check.py snapshot, kernel and live."""
 from __future__ import annotations
 
+import ctypes
+import errno
 import json
 import os
 import shutil
 import subprocess
 import sys
+import types
 import unittest
 from typing import Any, Dict, List
+from unittest import mock
 
 from common import COMMANDS, HERE, Case, Done
 from page_data import data_in, read_data
@@ -114,6 +118,23 @@ class Recorded(SnapshotCase):
         self.assertEqual(self.counted()[6:], [b"nfs4-list 2", b"rich-list 0", b"samba-list 1"])
         self.assertIn(b"files with an NFSv4 ACL (system.nfs4_acl), which facl does not judge: 2, first: " + self.place + b"a/2\n", done.messages)
         self.assertIn(b"files with an ACL of Samba (security.NTACL), which Samba checks too, and facl does not: 1, first: ", done.messages)
+
+
+class ReadOnly(unittest.TestCase):
+    def word(self, system: int, number: int) -> bytes:
+        """The word of a mount of this kind of file system, where access(2) fails with this number."""
+        def access(_name: bytes, _request: int) -> int:
+            ctypes.set_errno(number)
+            return -1 if number else 0
+        with mock.patch.object(linux, "LIBRARY", types.SimpleNamespace(access=access)), \
+                mock.patch.object(linux, "file_system_of", lambda descriptor: system), open(os.devnull, "rb") as file:
+            return beside.word_of(file.fileno()).partition(b",")[0]
+
+    def test_subvolumes(self) -> None:
+        """A subvolume of btrfs can be read-only on a mount that is not; others are not asked."""
+        for system, number, word in ((linux.BTRFS, errno.EROFS, b"ro"), (linux.BTRFS, errno.EACCES, b"rw"), (linux.BTRFS, 0, b"rw"),
+                                     (linux.FUSE, errno.EROFS, b"rw")):
+            self.assertEqual(self.word(system, number), word, (system, number))
 
 
 class ReadMarks(unittest.TestCase):

@@ -287,8 +287,9 @@ ln -sf kept 'l\nf'; rm folder gone; mkdir folder; mv d1 d && mv d2 d1 && mv d d2
         own = (acl_bytes.GROUP_OBJ, 4, acl_bytes.NO_ID)
         self.add_code(LISTS % (pack(first, (acl_bytes.USER, 1, 9), (acl_bytes.USER, 7, 9), (acl_bytes.USER, 2, 8), own, (acl_bytes.GROUP, 4, 7),
                                     (acl_bytes.GROUP, 2, 7), *last), b""))
-        self.expect_status(self.snapshot("new", "tree/b"), 0, b"ACLs with several entries of one user or group, which are recorded as "
-                           b"one, as Linux judges by them: ")
+        said = (b"ACLs with several entries of one user or group, which are recorded as one, or with entries of ids that this system "
+                b"does not know, which are left out, as Linux judges by them: ")
+        self.expect_status(self.snapshot("new", "tree/b"), 0, said)
         self.assertTrue(self.read("new/dump").endswith(
             b"\nuser::rw-\nuser:8:-w-\nuser:9:--x\ngroup::r--\ngroup:7:rw-\nmask::rwx\nother::r--\n\n"))
         code = LISTS % (pack(first, *((acl_bytes.USER, 4, number) for number in range(4092)), own, *last), b"")
@@ -299,6 +300,20 @@ ln -sf kept 'l\nf'; rm folder gone; mkdir folder; mv d1 d && mv d2 d1 && mv d d2
                       + "of_all = attribute\nwalking.live.attribute = lambda name, key: of_all(name, key) if not os.path.isdir(name) else None\n")
         self.expect_status(self.snapshot("new", "tree"), 1, b"/a/1: has an ACL of more than 4096 entries, which facl does not take\n")
         self.assertEqual(self.below_tree(), [b"", b"a/"])
+
+    def test_entries_of_ids_that_a_mount_does_not_have(self) -> None:
+        """On an idmapped mount, and in a container, the kernel gives 4294967295 for them, which means nobody, and is no id for the
+        program."""
+        none, rest = acl_bytes.NO_ID, [(acl_bytes.MASK, 6, acl_bytes.NO_ID), (acl_bytes.OTHER, 0, acl_bytes.NO_ID)]
+        entries = [(acl_bytes.USER_OBJ, 6, none), (acl_bytes.USER, 4, 9), (acl_bytes.USER, 6, none), (acl_bytes.GROUP_OBJ, 4, none),
+                   (acl_bytes.GROUP, 6, none), *rest]
+        for its, lines in ((entries, b"user::rw-\nuser:9:r--\ngroup::r--\nmask::rw-\nother::---\n"),
+                           ([*entries[:1], *entries[2:]], b"user::rw-\ngroup::r--\nmask::rw-\nother::---\n")):
+            found = list_texts.text_of(b"", acl_bytes.HEAD + b"".join(acl_bytes.ENTRY.pack(*it) for it in its))
+            self.assertEqual((found.lines, found.is_repeated, none in {*found.users, *found.groups}), (lines, True, False))
+        without_mask = b"".join(acl_bytes.ENTRY.pack(*it) for it in entries if it[0] != acl_bytes.MASK)
+        with self.assertRaises(list_texts.NoList):
+            list_texts.text_of(b"", acl_bytes.HEAD + without_mask)
 
     def test_lists_that_are_not_valid(self) -> None:
         """A file system of a user's process, or of a disk that somebody wrote, may give any bytes: the file is left out."""
@@ -589,6 +604,17 @@ def find(kind, make, place, key):
         done = self.snapshot("new", "tree")
         self.expect_status(done, 0, b"users with an id that another user has too, as ID NAME: 2, first: 70001 ann\n")
         self.assertEqual([row[:5] for row in self.read("new/passwd").splitlines() if b":70001:70001:" in row], [b"ann:x", b"anna:"])
+
+    def test_groups_of_one_name(self) -> None:
+        """A user is in the groups of all rows that name the user, as initgroups(3) has it: the program counts one row of a name."""
+        self.write("group.list", self.groups + b"lab:x:500:ann\nlab:x:500:finn,ann\nlab:x:501:ann\n501:x:7:ann\nlab:x:501:finn\n")
+        done = self.snapshot("new", "tree")
+        self.expect_status(done, 0, b"groups with a name that another group has too, of which facl names the others by their ids, "
+                                    b"as ID NAME: 3, first: 500 lab\n")
+        rows = self.read("new/group").splitlines()
+        for row in (b"lab:x:500:ann,finn", b"501:x:501:ann,finn", b"7:x:7:ann", b"70101:x:70101:carl,4711"):
+            self.assertIn(row, rows)
+        self.assertEqual(len({row.split(b":")[0] for row in rows}), len(rows))
 
     def test_where_they_are_missing(self) -> None:
         """It says what to do, with --quiet too."""

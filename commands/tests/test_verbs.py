@@ -6,14 +6,17 @@ import json
 import os
 import subprocess
 import unittest
-from typing import Dict, Iterator, List, Set, Tuple
+from typing import Dict, Iterator, List, Sequence, Set, Tuple
 from unittest import mock
 
 from verb_case import DAY, VerbCase, restoring, with_entry_of_nobody
 
+from facl_commands.base import beside
 from facl_commands.base.messages import Command, Failure
+from facl_commands.model.entries import entries_of
 from facl_commands.verbs import options, prepare, timer
 from facl_commands.verbs.table import ASKING, BY_VERB, MEANT, VERBS, parser_of, words_of
+from facl_commands.verbs.why import Step, WhyAnswer
 
 NOTES = "/srv/project/notes.txt"
 # The words of a verb, and those of the command that says the same; SNAP is the snapshot.
@@ -55,6 +58,43 @@ SAME: Tuple[Tuple[str, str], ...] = (
     ("ask --frob", ""), ("apply absent", "facl-apply absent"),
     ("undo absent --leave-changed", "facl-apply --undo --leave-changed absent"),
 )
+
+
+class WhySentences(unittest.TestCase):
+    """What the last line of why says beside what ACLs grant."""
+
+    def sentence(self, *entries: bytes, kinds: Sequence[bytes] = (), is_directory: bool = False, above: bytes = b"other::r-x") -> bytes:
+        """Of the file /a/f, by the entries that decide on ines there and above."""
+        its, over = entries_of(b"\n".join(entries)), entries_of(above)
+        granted = [set(it.effective.decode()) - {"-"} for it in its]
+        steps = [Step(b"/a", over, not over[0].grants(b"x"), [], []), Step(b"/a/f", its, False, [*kinds], [])]
+        answer = WhyAnswer(b"ines", steps, [it for it in granted if it], is_directory, False)
+        self.assertEqual(answer.of_use() != "" and answer.closed() is None, b"nothing" not in answer.sentence(), entries)
+        return answer.sentence()
+
+    def test_owners(self) -> None:
+        """Who owns a file may change its mode and ACL, whatever these grant (chmod(2), EPERM); not one that is immutable."""
+        changes = b"; as the owner of /a/f ines can change its ACL"
+        for entry, text in ((b"user::---", b"do nothing with /a/f, by user::---" + changes), (b"user::r--", b"read /a/f, by user::r--" + changes),
+                            (b"user::rw-", b"read and write /a/f, by user::rw-"), (b"other::r--", b"read /a/f, by other::r--")):
+            self.assertEqual(self.sentence(entry), b"ines can " + text)
+        self.assertEqual(self.sentence(b"user::rw-", is_directory=True), b"ines can list /a/f, by user::rw-" + changes)
+        self.assertEqual(self.sentence(b"user::---", kinds=[beside.IMMUTABLE]), b"ines can do nothing with /a/f, by user::---")
+        self.assertEqual(self.sentence(b"user::rw-", above=b"user::rw-"), b"ines can do nothing with /a/f: /a gives no search permission "
+                         b"(user::rw-); as the owner of /a ines can change its ACL")
+
+    def test_what_nobody_can_do(self) -> None:
+        """On an immutable file, and on read-only and noexec file systems."""
+        fixed, run = (b"; nobody can write /a/f, since it is immutable", b"; nobody can execute /a/f, since it is on a noexec file system")
+        for entry, kind, text in (
+                (b"other::rw-", beside.IMMUTABLE, b"read /a/f, by other::rw-" + fixed),
+                (b"other::-w-", beside.IMMUTABLE, b"do nothing with /a/f, by other::-w-" + fixed),
+                (b"other::r--", beside.IMMUTABLE, b"read /a/f, by other::r--"),
+                (b"other::rw-", beside.APPEND_ONLY, b"read and write /a/f, by other::rw-"),
+                (b"other::rwx", beside.NOEXEC, b"read and write /a/f, by other::rwx" + run)):
+            self.assertEqual(self.sentence(entry, kinds=[kind]), b"ines can " + text)
+        self.assertEqual(self.sentence(b"other::rwx", kinds=[beside.READ_ONLY, beside.NOEXEC], is_directory=True),
+                         b"ines can list and enter /a/f, by other::rwx; nobody can write in /a/f, since it is on a read-only file system")
 
 
 class Parsers(unittest.TestCase):

@@ -411,6 +411,15 @@ class NewFile(WhoCase):
                          ("group::r-x #effective:r--", ["ines", "ben", "mara"], ["ines", "mara"]))
 
 
+class OtherNames(Case):
+    def test_a_file_that_is_named(self) -> None:
+        """Who gets to nothing by one name may read the same file by another one."""
+        shutil.copytree(os.path.join(HERE, "snapshots", "share"), self.path("share"))
+        done = self.run_command("facl-who", ["read", "share", "/srv/share/one"])
+        self.assertEqual((done.status, done.out.splitlines()[-1]), (
+            0, b"/srv/share/one: is the same file as /srv/share/two: look at that name too"))
+
+
 class OddNames(WhoCase):
     def setUp(self) -> None:
         super().setUp()

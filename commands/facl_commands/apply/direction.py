@@ -185,7 +185,7 @@ class Obstacles:
     def of_file(self, file: OpenFile, path: bytes, seen: Seen) -> Optional[bytes]:
         device, (_, mount), end = seen.identity.device, seen.beside, self.way.end(path)
         if mount not in self.read_only:
-            self.read_only[mount] = bool(os.fstatvfs(file.descriptor).f_flag & os.ST_RDONLY)
+            self.read_only[mount] = linux.is_read_only(file.descriptor)
             self.has_lists[device] = file.takes_lists()
             self.overlays[device] = linux.overlay_of(file.descriptor, device)
             if not self.read_only[mount] and self.has_lists[device] and self.overlays[device] == linux.NO_OVERLAY:

@@ -28,10 +28,10 @@ KINDS = (IMMUTABLE, APPEND_ONLY, READ_ONLY, NOEXEC, ATTRIBUTES_UNKNOWN, *OTHER_L
 def word_of(descriptor: int) -> bytes:
     """How an open file is mounted: what the mount and its file system allow."""
     try:
-        flags = os.fstatvfs(descriptor).f_flag
+        flags, is_read_only = os.fstatvfs(descriptor).f_flag, linux.is_read_only(descriptor)
     except OSError:
         return UNKNOWN_MOUNT
-    return (b"ro" if flags & os.ST_RDONLY else PLAIN) + b",noexec" * bool(flags & os.ST_NOEXEC)
+    return (b"ro" if is_read_only else PLAIN) + b",noexec" * bool(flags & os.ST_NOEXEC)
 
 
 def of_mount(word: bytes) -> Tuple[bytes, ...]:

@@ -23,7 +23,7 @@ ATTRIBUTES = IMMUTABLE | APPEND_ONLY
 UNKNOWN = 1  # No attribute: the file system does not say whether a file has them.
 RENAME_NOREPLACE, RENAME_EXCHANGE = 1, 2
 NO_OVERLAY, OF_ONE, OF_SEVERAL = range(3)
-OVERLAY, TMPFS, FUSE = 0x794C7630, 0x01021994, 0x65735546  # Kinds of file systems, as statfs(2) has them.
+OVERLAY, TMPFS, FUSE, BTRFS = 0x794C7630, 0x01021994, 0x65735546, 0x9123683E  # Kinds of file systems, as statfs(2) has them.
 OF_KERNEL = (0x9FA0, 0x62656572)  # proc and sysfs, whose files the kernel makes.
 # struct statx: the mask of what is known, attributes, names, the label (owner, group, mode), inode, which attributes are known,
 # birth in seconds and nanoseconds, the mount (device in two parts, number).
@@ -65,6 +65,15 @@ def file_system_of(descriptor: int) -> int:
     """The kind of the file system of an open file; 0 if that is not known."""
     statfs = getattr(LIBRARY, "fstatfs", None)
     return 0 if statfs is None or statfs(descriptor, BUFFER) != 0 else int.from_bytes(BUFFER.raw[:4], "little")
+
+
+def is_read_only(descriptor: int) -> bool:
+    """Whether an open file is mounted read-only, or is of a subvolume of btrfs that is so (btrfs-property(8)): its mount does not
+    say it, and access(2) has EROFS for everybody."""
+    if os.fstatvfs(descriptor).f_flag & os.ST_RDONLY:
+        return True
+    is_refused = file_system_of(descriptor) == BTRFS and LIBRARY.access(b"/proc/self/fd/%d" % descriptor, os.W_OK) != 0
+    return bool(is_refused and ctypes.get_errno() == errno.EROFS)
 
 
 def overlay_of(descriptor: int, device: int) -> int:

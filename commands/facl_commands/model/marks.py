@@ -93,7 +93,7 @@ NO_MARKS = Marks()
 
 def about(kind: bytes) -> bytes:
     """The kind of a file after `is`."""
-    return b"on a read-only file system" if kind == beside.READ_ONLY else kind
+    return {beside.READ_ONLY: b"on a read-only file system", beside.NOEXEC: b"on a noexec file system"}.get(kind, kind)
 
 
 def text_of(folder: bytes) -> bytes:

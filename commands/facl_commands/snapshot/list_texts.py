@@ -1,8 +1,9 @@
 """Records of files as `getfacl -n -p` of Debian 12 prints them, of the bytes of their lists.
 
-The kernel takes lists with several entries of one user or group, and lists with more entries than the program takes.
-getfacl prints both, and the program loads no dump with one of them. So a list of the first kind is recorded as the kernel
-judges by it, and a file with one of the second kind is not recorded.
+The kernel takes lists with several entries of one user or group, and lists with more entries than the program takes. Where a mount
+or a container has other ids (mount_setattr(2), user_namespaces(7)), it gives NO_ID for whom it has none. getfacl prints all of them,
+and the program loads no dump with one. So a list of the first and of the last kind is recorded as the kernel judges by it, which is
+without entries of NO_ID, and a file with one of the second kind is not recorded.
 """
 from __future__ import annotations
 
@@ -35,7 +36,7 @@ class ListText(NamedTuple):
     lines: bytes
     users: FrozenSet[int]
     groups: FrozenSet[int]
-    is_repeated: bool  # Whether it has several entries of one user or group.
+    is_repeated: bool  # Whether it has several entries of one user or group, or of one without an id.
 
 
 class LabelText(NamedTuple):
@@ -74,8 +75,8 @@ def shown_name(name: bytes) -> bytes:
 
 
 def entries_of(data: bytes) -> Tuple[acl_bytes.Entries, bool]:
-    """The entries of a list as the kernel judges by them, and whether it has several of one user or group: of a user the
-    first one counts, and each one of a group grants what it has."""
+    """The entries of a list as the kernel judges by them, and whether it has others: of several of a user the first one counts, each
+    one of a group grants what it has, and nobody is meant by one of a user or group without an id."""
     number_of_entries, rest = divmod(len(data) - len(HEAD), ENTRY.size)
     if data[:4] != HEAD or rest:
         raise NoList(b"has an ACL that is not valid")
@@ -83,8 +84,9 @@ def entries_of(data: bytes) -> Tuple[acl_bytes.Entries, bool]:
     for tag, bits, number in ENTRY.iter_unpack(data[4:]):
         key = tag, number if tag in NAMED else NO_ID
         found[key] = found.get(key, 0) | bits if tag == GROUP else found.get(key, bits)
+    of_nobody = [found.pop((tag, NO_ID), 0) for tag in NAMED]
     tags = {tag for tag, _ in found}
-    if not {*ALONE} <= tags <= {*TAGS} or {*NAMED} & tags and MASK not in tags or max(found.values()) > 7:
+    if not {*ALONE} <= tags <= {*TAGS} or {*NAMED} & tags and MASK not in tags or max(*found.values(), *of_nobody) > 7:
         raise NoList(b"has an ACL that is not valid")
     if len(found) > MOST_ENTRIES:
         raise NoList(b"has an ACL of more than %d entries, which facl does not take" % MOST_ENTRIES)

@@ -81,7 +81,8 @@ class Recording:
             (b"names of files that have another name in the snapshot too (see links)", sum(map(len, linked.sets)), linked.first),
             (b"files with more than one link whose other names are not in the snapshot", linked.outside, linked.first_outside),
             *((text, sums.numbers[bit], sums.first.get(bit, b"")) for bit, text in (
-                (REPEATED, b"ACLs with several entries of one user or group, which are recorded as one, as Linux judges by them"),
+                (REPEATED, b"ACLs with several entries of one user or group, which are recorded as one, or with entries of ids that "
+                           b"this system does not know, which are left out, as Linux judges by them"),
                 *((BITS[kind], text) for kind, text in SAID.items())))]
         return [(text, number, shown_name(first)) for text, number, first in found]
 

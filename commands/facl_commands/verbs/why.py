@@ -5,14 +5,16 @@ import argparse
 import os
 from typing import Dict, Iterator, List, NamedTuple, Optional, Set
 
+from ..base import beside
 from ..base.accounts import SUPERUSER
 from ..base.messages import Command
 from ..base.names import json_text, path_word, shown
 from ..base.programs import find_program
 from ..base.tables import Column, Table, paged, write_json, write_table
 from ..model import choice, overview, split_tree
-from ..model.entries import CUT, Entries, entries_of
+from ..model.entries import CUT, OWNER_KEY, Entries, entries_of
 from ..model.everybody import world_of
+from ..model.marks import NO_CHANGE, NO_WRITING, about
 from ..model.records import asks_as_directory, body_of, name_of, path_of
 from ..model.rules_of_lists import grants_search
 from ..model.sources import Source
@@ -33,10 +35,16 @@ class Step(NamedTuple):
     name: bytes
     entries: Entries
     is_closed: bool  # Whether it is the first directory without search permission for the user.
-    marks: List[bytes]  # What Linux looks at beside its ACL.
+    kinds: List[bytes]  # Of its marks.
+    marks: List[bytes]  # What Linux looks at beside its ACL, and other names of FILE.
 
     def texts(self) -> List[bytes]:
         return [it.text(CUT) for it in self.entries]
+
+    def owned(self, user: bytes) -> bytes:
+        """What an owner can do besides: chmod(2) asks for no permission on the file."""
+        is_owned = [it.key for it in self.entries[:1]] == [OWNER_KEY] and not {*self.kinds} & {*NO_CHANGE}
+        return b"; as the owner of %s %s can change its ACL" % (self.name, user) if is_owned else b""
 
     def rows(self) -> Iterator[List[bytes]]:
         note = b"; ".join([*[CLOSED] * self.is_closed, *self.marks])
@@ -59,20 +67,42 @@ class WhyAnswer(NamedTuple):
     def letters(self) -> str:
         return "".join(letter for letter in "rwx" if any(letter in its for its in self.granted))
 
+    def barred(self) -> Dict[str, bytes]:
+        """The letters that grant nobody anything on such a file, each with the kind of mark by which that is so."""
+        kinds = self.steps[-1].kinds
+        found = {"w": kind for kind in kinds if kind in NO_WRITING}
+        return {**found, "x": beside.NOEXEC} if beside.NOEXEC in kinds and not self.is_directory else found
+
     def of_use(self) -> str:
-        """The letters without w of a directory that is not granted with x: nothing can be made or removed there."""
+        """The letters without those that are barred, and without w of a directory that is not granted with x: nothing can be made or
+        removed there."""
         can_write = not self.is_directory or any({"w", "x"} <= its for its in self.granted)
-        return self.letters() if can_write else self.letters().replace("w", "")
+        barred = {*self.barred(), *("w" * (not can_write))}
+        return "".join(it for it in self.letters() if it not in barred)
+
+    def ends(self) -> Iterator[bytes]:
+        """What follows the rights and their entries."""
+        words = IN_FOLDER if self.is_directory else WORDS
+        for letter, kind in self.barred().items():
+            if letter in self.letters():
+                yield b"; nobody can %s %s, since it is %s" % (words[letter], self.steps[-1].name, about(kind))
+        if not {*("rwx" if self.is_directory else "rw")} <= {*self.letters()}:
+            yield self.steps[-1].owned(self.user)
 
     def sentence(self) -> bytes:
         file, closed = self.steps[-1], self.closed()
         if closed is not None:
             return b"%s can do nothing with %s: %s gives no search permission (%s)" % (
-                self.user, file.name, closed.name, b", ".join(closed.texts()) or b"no entry")
+                self.user, file.name, closed.name, b", ".join(closed.texts()) or b"no entry") + closed.owned(self.user)
+        return self.what() + b"".join(self.ends())
+
+    def what(self) -> bytes:
+        """What the user can do with the file, and by which entries."""
+        file, letters = self.steps[-1], self.of_use()
         by = b", ".join(file.texts()) or b"no entry"
-        letters = self.of_use()
         if not letters:
-            return b"%s can do nothing with %s, by %s" % (self.user, file.name, by) + b" (w is of no use without x)" * bool(self.letters())
+            is_void = {*self.letters()} - {*self.barred()}
+            return b"%s can do nothing with %s, by %s" % (self.user, file.name, by) + b" (w is of no use without x)" * bool(is_void)
         words = [(IN_FOLDER if self.is_directory else WORDS)[letter] for letter in letters]
         together = any(set(letters) <= its for its in self.granted)
         joined = b", ".join(words[:-1]) + (b" and " if together else b" or ") * (len(words) > 1) + words[-1]
@@ -93,7 +123,8 @@ def steps_of(asker: Asker, user: bytes, path: bytes) -> Iterator[Step]:
         if record:
             its, entries = path_of(name_of(record)), entries_of(body_of(record) + b"\n")
             closes = its != path and not grants_search(entries)
-            yield Step(asker.name_of(its), entries, closes and is_open, asker.marks.texts(its))
+            other_names = asker.other_names(its) if its == path else []
+            yield Step(asker.name_of(its), entries, closes and is_open, asker.marks.of(its), [*asker.marks.texts(its), *other_names])
             is_open = is_open and not closes
 
 

@@ -45,8 +45,9 @@ class Audited(NamedTuple):
 
 
 def without_flag(flag: int, file: File, record: ReadRecord, _ids: NamesOfIds) -> OfFile:
+    """By execve(2) the flag of the group counts where the group class may execute; else it marked locking, as chown(2) has it."""
     flags = flag_digit(record.flags)
-    if file.is_directory or not flags & flag:
+    if file.is_directory or not flags & flag or flag == SET_GROUP and not record.group_class().endswith(b"x"):
         return None
     is_run = any(it.grants(b"x") for it in record.access if it.key not in (OWNER_KEY, MASK_KEY))
     return Mend(b"", b"chmod " + digits(record, flags & ~flag), A_PROGRAM * is_run)

@@ -1,9 +1,9 @@
 """Whether rules hold in a snapshot, by the program's answers; and those that hold, as a start for a file of them."""
 from __future__ import annotations
 
-from typing import Dict, Iterator, List, NamedTuple, Optional, Set, Tuple
+from typing import Dict, Iterable, Iterator, List, NamedTuple, Optional, Set, Tuple
 
-from ...base.names import path_word, places_below, read_name, shown_path, write_user
+from ...base.names import at_or_below, path_word, places_below, read_name, shown_path, write_user
 from ...model.choice import is_recorded
 from ...model.entries import Entries, entries_of
 from ...model.everybody import SHOWN, World, files_of
@@ -166,6 +166,15 @@ def outcome(rights: Rights, rule: Rule) -> RuleOutcome:
             paths = [path for path in asked if path not in known]
         violations += [violation(rights, rule, place, user, paths)] if paths else []
     return RuleOutcome(rule, len(asked), violations)
+
+
+def names_beside(rule: Rule, links: Iterable[List[bytes]]) -> List[Tuple[bytes, bytes]]:
+    """The files that a rule keeps from users by one name and not by another one, by which they may have them: both names."""
+    found = []
+    for names in links if rule.kind != ALWAYS else ():
+        meant = [it for it in at_or_below(names, [rule.path]) if it != rule.path or not rule.is_below]
+        found += [(meant[0], it) for it in names if meant and it not in meant][:1]
+    return found
 
 
 # --- the rules that hold

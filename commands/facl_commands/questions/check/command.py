@@ -3,20 +3,22 @@ from __future__ import annotations
 
 import argparse
 import os
-from typing import Dict, List, Optional, Set
+from typing import Dict, Iterable, Iterator, List, Optional, Set
 
-from ...base.messages import UNUSABLE, Command, Failure, parser_of
-from ...base.names import shown, write_user
+from ...base.folders import folder_of
+from ...base.messages import UNUSABLE, Command, Failure, counted, parser_of
+from ...base.names import file_name, shown, write_user
 from ...base.programs import find_program
 from ...base.tables import add_output, paged, write_json, write_table
 from ...model import choice, overview, sources, split_tree
 from ...model.everybody import World, paths_of, world_of
 from ...model.meta import meta_of, named
 from ...model.people import ids_in, rows_of
+from ...model.snapshot import read_links
 from ...model.sources import Source
-from .answers import Rights, RuleOutcome, outcome, rules_that_hold
+from .answers import Rights, RuleOutcome, names_beside, outcome, rules_that_hold
 from .report import SCHEMA, CheckReport, json_of, lines_of, table_of
-from .rules import INPUT, Faults, RuleReader
+from .rules import INPUT, Faults, Rule, RuleReader
 
 HELP = """\
 Checks that rules hold in a snapshot. RULES is a file of lines
@@ -105,7 +107,19 @@ def report_of(given: argparse.Namespace, source: Source, program: str) -> CheckR
     name = b"standard input" if given.rules == INPUT else os.fsencode(given.rules)
     about = split_tree.meta_of_all(parts) if parts else meta_of(source.folder)
     return CheckReport(source.shown, about, name, [outcomes[rule.number] for rule in rules],
-                       choice.in_order(map(write_user, left_out), passwd), reader.notes, passwd, is_whole)
+                       choice.in_order(map(write_user, left_out), passwd),
+                       [*reader.notes, *notes_on_names(given, source, rules, is_whole)], passwd, is_whole)
+
+
+def notes_on_names(given: argparse.Namespace, source: Source, rules: Iterable[Rule], is_whole: bool) -> Iterator[bytes]:
+    """What is said of each rule on files that have names which it is not about."""
+    folders = split_tree.snapshots_in(source.folder)
+    links = [its for folder in folders for its in read_links(folder_of(folder).optional(b"links"))]
+    for rule in () if given.quiet else rules:
+        found = [tuple(file_name(it, is_whole) for it in names) for names in names_beside(rule, links)]
+        if found:
+            yield b"line %d: the rule is not about all names of %s, first: %s, which is %s too" % (
+                rule.number, counted(len(found), "file"), *found[0])
 
 
 def write(command: Command, given: argparse.Namespace, report: CheckReport) -> None:

@@ -7,15 +7,18 @@ import contextlib
 import re
 from typing import Dict, Iterable, Iterator, List, NamedTuple, Optional, Sequence, Tuple
 
+from ...base.folders import folder_of
 from ...base.messages import Failure
 from ...base.names import number_of, path_word, read_name, write_user
 from ...base.tables import Table
 from ...model import meta
+from ...model.choice import few
 from ...model.entries import OTHER_KEY, OWNER_KEY, OWNING_GROUP_KEY, Entry, entries_of, read_record
 from ...model.everybody import SHOWN, World, beside
 from ...model.label_answers import ask_records
 from ...model.marks import NO_MARKS, Unwritable, find_unwritable, marks_of, without_write
 from ...model.people import needed_word, no_user, user_by, user_word
+from ...model.snapshot import read_links
 from ...program.protocol import EFFECTIVE, ENTRIES_OF, LIST_NAMES
 from ...program.tools import REACH
 
@@ -87,6 +90,12 @@ class Asker:
     def name_of(self, path: bytes) -> bytes:
         """The name of a file on the live system, where the snapshot starts at the root; with the program's escapes."""
         return self.world.name_of(path)
+
+    def other_names(self, path: bytes) -> List[bytes]:
+        """What is said of a file that has other names in the snapshot: the directories above these may be open."""
+        links = read_links(folder_of(self.session.folder).optional(b"links"))
+        names = [self.name_of(it) for its in links if path in its for it in its if it != path]
+        return [b"is the same file as " + few(names) + b": look at that name too"] if names else []
 
     def spoken(self, folders: List[bytes]) -> bytes:
         """Some folders in a message."""

@@ -164,7 +164,7 @@ def write_answer(command: Command, asker: Asker, source: Source, answer: WhoAnsw
         for line in answer.after if answer.table.rows else ():
             command.tell(line)
         for path in asker.named:
-            for text in asker.marks.texts(path):
+            for text in (*asker.marks.texts(path), *asker.other_names(path)):
                 command.tell(asker.name_of(path) + b": " + text)
 
 
