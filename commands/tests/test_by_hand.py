@@ -819,7 +819,7 @@ class Users(UserScripts):
         self.write_scripts(people=people)
         for shell in SHELLS:
             self.expect_run("by_hand", 0, shell=shell)
-            self.assertEqual(self.calls(), [b"gpasswd -a ben -- design", b"usermod -g 400 -- ben", b"useradd -u 1010 -g 400 -- nell",
+            self.assertEqual(self.calls(), [b"gpasswd -a ben -- design", b"usermod -g 400 -- ben", b"useradd -M -u 1010 -g 400 -- nell",
                                             b"gpasswd -d mara -- design", b"userdel -- root"])
             self.expect_run("by_hand", 0, shell=shell)
             self.assertEqual(len(self.calls()), 5)
@@ -828,6 +828,31 @@ class Users(UserScripts):
         self.assertEqual([shown_change(it) for it in people], [
             b"gpasswd -a ben design", b"usermod -g 400 ben", b"useradd -u 1010 -g 400 nell", b"gpasswd -d mara design", b"userdel root"
         ])
+
+    def started(self, path: str, before: Callable[[], object]) -> Done:
+        """A run by a caller who has called something before, with another path, in the folder of the test."""
+        words = [sys.executable, "-I", os.path.join(COMMANDS, "facl-by-hand"), self.path("plan/by_hand")]
+        done = subprocess.run(words, capture_output=True, cwd=self.folder, env={**os.environ, "PATH": path}, preexec_fn=before, check=False)
+        return Done(done.returncode, done.stdout, done.stderr)
+
+    def test_a_caller_who_ignores_the_end_of_children(self) -> None:
+        """Linux keeps no status of them then (wait(2)), and a caller's choice outlives execve(2)."""
+        self.write_scripts(people=self.changes(b"userdel mara"))
+        self.stand_in("userdel", "exit 8\n")
+        done = self.started(self.path("bin") + ":" + os.environ["PATH"], lambda: signal.signal(signal.SIGCHLD, signal.SIG_IGN))
+        self.assertEqual((done.status, done.messages), (8, b"by_hand: userdel mara: fails with the status 8\n"))
+        self.assertEqual(self.read("plan/by_hand_done"), b"1 begun\n")
+
+    def test_tools_in_the_current_folder(self) -> None:
+        self.write_scripts(people=self.changes(b"userdel mara"))
+        self.stand_in("userdel", "exit 7\n")
+        os.rename(self.path("bin/userdel"), self.path("userdel"))
+        self.stand_in("userdel", 'echo "found $*" >>"%s"\n' % self.path("calls"))
+        for path in (".:%s", ":%s", "bin/..:%s"):
+            done = self.started(path % self.path("bin") + ":/usr/bin:/bin", lambda: None)
+            self.assertEqual((done.status, done.messages, self.calls()), (0, b"", [b"found -- mara"]))
+            os.unlink(self.path("calls"))
+            os.unlink(self.path("plan/by_hand_done"))
 
     def test_names_of_digits_and_dashes(self) -> None:
         people = self.changes(b"gpasswd -a 1005 400", b"gpasswd -d ben 400", b"usermod -g design 1006")
