@@ -23,7 +23,7 @@ from facl_commands.base import acl_bytes, linux, messages
 from facl_commands.base.acl_bytes import Record
 from facl_commands.base.linux import Identity
 from facl_commands.base.messages import Command, Failure
-from facl_commands.base.user_tools import PeopleChange, shown_change
+from facl_commands.base.user_tools import PeopleChange, User, shown_change
 from facl_commands.model import entries, records
 from facl_commands.model.people import People
 from facl_commands.model.records import File
@@ -1056,6 +1056,21 @@ class Lost(UserScripts):
         with mock.patch.object(Command, "say", lambda _command, text: said.append(text)), mock.patch(
                 "pwd.getpwnam", lambda name: mock.Mock(pw_uid=ids[name])):
             return apply.say_removed(Command("facl-apply"), apply.by_hand(way)[1]), said
+
+    def test_an_id_that_another_user_has(self) -> None:
+        """It gets no file back: the next user may have got the id of one who was removed."""
+        named = struct.pack("<I" + "HHI" * 5, 2, 1, 6, acl_bytes.NO_ID, 2, 4, 1003, 4, 4, acl_bytes.NO_ID, 0x10, 4, acl_bytes.NO_ID, 0x20, 0, acl_bytes.NO_ID)
+        mine = Record(1003, 100, 0, acl_bytes.minimal(0o640), b"")
+        records_of = {b"mine": mine, b"lent": mine._replace(owner=0, access=named), b"new": mine._replace(owner=0, default=named),
+                      b"other": mine._replace(owner=1002, group=1003)}
+        way, look = mock.Mock(end=records_of.get), mock.Mock(files=records_of)
+        mara = User(b"mara", 1003, 200)
+        cases: List[Tuple[Optional[str], Set[bytes]]] = [("nell", {b"mine", b"lent", b"new"}), ("mara", set()), (None, set())]
+        for name, found in cases:
+            row = mock.Mock(pw_name=name)
+            with mock.patch("pwd.getpwuid", mock.Mock(return_value=row, side_effect=None if name else KeyError)):
+                held = apply.given_to_others(way, look, [mara])
+            self.assertEqual(held, dict.fromkeys(found, b"would be given back to user nell, who has the id of mara now"))
 
     def test_files_that_went(self) -> None:
         self.write_scripts(["d/gone", "secret/gone", "secret"])
