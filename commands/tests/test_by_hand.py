@@ -638,6 +638,15 @@ class Exchanges(Scripts):
                 self.assertEqual(self.names("d"), ["away", "stays"] if is_it else ["away", "gone", "stays"], text)
                 self.assertEqual((self.names("secret"), self.read("tree/d/stays")), (["gone"], b"text"))
 
+    def test_an_append_only_folder(self) -> None:
+        """A file can be made in it, and none be moved or removed: a closed folder would stay (chattr(1))."""
+        self.write_scripts(["d/gone"], self.MADE)
+        marked = ("look = linux.look_at\ndef look_at(*words):\n    status, (_, mount) = look(*words)\n"
+                  "    return status, (linux.APPEND_ONLY, mount)\nlinux.look_at = look_at")
+        done = self.run_patched(marked)
+        said = f"by_hand: {self.tree}/d: is append-only, so nothing in it can be moved or removed; run chattr -a first\n"
+        self.assertEqual((done.status, done.messages.decode(), self.names("d")), (1, said, ["gone", "stays"]))
+
     def test_a_file_that_grows_before_it_is_taken_back(self) -> None:
         self.write_scripts(made=self.MADE)
         self.expect_run("by_hand", 0)
