@@ -22,9 +22,9 @@ from real import RealCase
 
 from facl_commands.apply import carrying, changing, direction, survey
 from facl_commands.apply import command as apply
-from facl_commands.base import acl_bytes, live
+from facl_commands.base import acl_bytes, live, names
 from facl_commands.base.linux import Identity
-from facl_commands.base.messages import SIGNALS, Failure
+from facl_commands.base.messages import SIGNALS, Command, Failure
 from facl_commands.planned import by_hand, differences, plan_files, plan_folder
 from facl_commands.planned.plan_folder import PlanFolder
 
@@ -375,6 +375,23 @@ class ThereAndBack(Tree):
         os.symlink(self.tree + ".away", self.tree)
         self.expect_not_taken(b": is reached by a symbolic link now")
 
+    def test_a_plan_that_nobody_would_trust(self) -> None:
+        """Where it opens a folder above it to others, nobody could take it back."""
+        plan, top = os.path.join(self.tree, "p.plan"), names.script_word(names.write_name(os.fsencode(self.tree)))
+        for mode, message in ((b"777", b"leads to the plan, and others could write there, so that it could not be taken back: move "
+                                       b"the plan first"), (b"1777", b"")):
+            self.take_snapshot()
+            self.assertEqual(self.plan(b"chmod " + mode + b" " + top + b"\n", "--plan", plan).status, 0)
+            done = self.run_command("facl-apply", [plan])
+            if message:
+                self.expect(done, 2, b"", b"facl-apply: %s: %s\nfacl-apply: nothing was changed\n" % (os.fsencode(self.tree), message))
+                os.rename(plan, self.path("moved"))
+                plan = self.path("moved")
+                done = self.run_command("facl-apply", [plan])
+            self.expect(done, 0, b"changed 1 file\n")
+            self.expect(self.run_command("facl-apply", ["--undo", plan]), 0, b"restored 1 file\n")
+            plan = os.path.join(self.tree, "q.plan")
+
     def test_other_kinds(self) -> None:
         self.planned(b"chmod 600 " + self.word("a"))
         os.unlink(os.path.join(self.tree, "a"))
@@ -458,6 +475,16 @@ class Meanwhile(Tree):
         self.exchange("b", "secret")
         self.assertEqual(list(carrier.put_back().values()), [b"was replaced by another file"])
         self.assertEqual([self.mode(name) for name in ("a", "b", "secret")], [0o640, 0o604, 0o604])
+
+    def test_files_are_put_back_before_that_is_said(self) -> None:
+        """A terminal that is stopped, or a pipe, may wait for its reader for ever."""
+        self.make("secret")
+        modes: List[int] = []
+        carrier = self.carrier(b"chmod 604 " + self.word("a") + b" " + self.word("b"))
+        self.exchange("b", "secret")
+        with unittest.mock.patch.object(apply, "say_list", lambda *_: modes.append(self.mode("a"))):
+            self.assertEqual(apply.give_all(Command("facl-apply", True), carrier.way, carrier, True), 1)
+        self.assertEqual(modes, [0o640])
 
     def test_a_waiting_signal_ends_it(self) -> None:
         carrier = self.carrier(b"chmod 604 " + self.word("a"))
@@ -602,6 +629,20 @@ class SideBySide(Meanwhile):
         self.assertEqual(sorted(sum(carrier.parts(list(carrier.seen)), [])), sorted(carrier.seen))
         self.assertEqual(carrier.run(), {})
         self.assertEqual((self.mode("f00"), self.mode("z")), (0o604, 0o604))
+
+    def test_a_file_below_two_mounts(self) -> None:
+        """Linux counts one name of it; the snapshot has both."""
+        self.make("f00")
+        os.link(os.path.join(self.tree, "f00"), os.path.join(self.tree, "z"))
+        look_by = live.look_by
+        with unittest.mock.patch.object(live, "look_by", lambda *words: look_by(*words)._replace(names=1)):
+            carrier = self.carrier(b"chmod 604 " + b" ".join(self.word(name) for name in ("a", "b", "f00", "z")))
+            first = carrier.parts(list(carrier.seen))[0]
+            self.assertEqual({os.path.basename(name) for name in first} & {b"f00", b"z"}, {b"f00", b"z"})
+            self.assertEqual(carrier.run(), {})
+            self.assertEqual((self.mode("f00"), self.mode("z")), (0o604, 0o604))
+            self.assertEqual(carrier.put_back(), {})
+        self.assertEqual((self.mode("f00"), self.mode("z")), (0o640, 0o640))
 
 
 if __name__ == "__main__":

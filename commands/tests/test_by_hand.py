@@ -23,7 +23,7 @@ from facl_commands.base import acl_bytes, linux, messages
 from facl_commands.base.acl_bytes import Record
 from facl_commands.base.linux import Identity
 from facl_commands.base.messages import Command, Failure
-from facl_commands.base.user_tools import PeopleChange, shown_change
+from facl_commands.base.user_tools import PeopleChange, User, shown_change
 from facl_commands.model import entries, records
 from facl_commands.model.people import People
 from facl_commands.model.records import File
@@ -638,6 +638,15 @@ class Exchanges(Scripts):
                 self.assertEqual(self.names("d"), ["away", "stays"] if is_it else ["away", "gone", "stays"], text)
                 self.assertEqual((self.names("secret"), self.read("tree/d/stays")), (["gone"], b"text"))
 
+    def test_an_append_only_folder(self) -> None:
+        """A file can be made in it, and none be moved or removed: a closed folder would stay (chattr(1))."""
+        self.write_scripts(["d/gone"], self.MADE)
+        marked = ("look = linux.look_at\ndef look_at(*words):\n    status, (_, mount) = look(*words)\n"
+                  "    return status, (linux.APPEND_ONLY, mount)\nlinux.look_at = look_at")
+        done = self.run_patched(marked)
+        said = f"by_hand: {self.tree}/d: is append-only, so nothing in it can be moved or removed; run chattr -a first\n"
+        self.assertEqual((done.status, done.messages.decode(), self.names("d")), (1, said, ["gone", "stays"]))
+
     def test_a_file_that_grows_before_it_is_taken_back(self) -> None:
         self.write_scripts(made=self.MADE)
         self.expect_run("by_hand", 0)
@@ -819,7 +828,7 @@ class Users(UserScripts):
         self.write_scripts(people=people)
         for shell in SHELLS:
             self.expect_run("by_hand", 0, shell=shell)
-            self.assertEqual(self.calls(), [b"gpasswd -a ben -- design", b"usermod -g 400 -- ben", b"useradd -u 1010 -g 400 -- nell",
+            self.assertEqual(self.calls(), [b"gpasswd -a ben -- design", b"usermod -g 400 -- ben", b"useradd -M -u 1010 -g 400 -- nell",
                                             b"gpasswd -d mara -- design", b"userdel -- root"])
             self.expect_run("by_hand", 0, shell=shell)
             self.assertEqual(len(self.calls()), 5)
@@ -828,6 +837,31 @@ class Users(UserScripts):
         self.assertEqual([shown_change(it) for it in people], [
             b"gpasswd -a ben design", b"usermod -g 400 ben", b"useradd -u 1010 -g 400 nell", b"gpasswd -d mara design", b"userdel root"
         ])
+
+    def started(self, path: str, before: Callable[[], object]) -> Done:
+        """A run by a caller who has called something before, with another path, in the folder of the test."""
+        words = [sys.executable, "-I", os.path.join(COMMANDS, "facl-by-hand"), self.path("plan/by_hand")]
+        done = subprocess.run(words, capture_output=True, cwd=self.folder, env={**os.environ, "PATH": path}, preexec_fn=before, check=False)
+        return Done(done.returncode, done.stdout, done.stderr)
+
+    def test_a_caller_who_ignores_the_end_of_children(self) -> None:
+        """Linux keeps no status of them then (wait(2)), and a caller's choice outlives execve(2)."""
+        self.write_scripts(people=self.changes(b"userdel mara"))
+        self.stand_in("userdel", "exit 8\n")
+        done = self.started(self.path("bin") + ":" + os.environ["PATH"], lambda: signal.signal(signal.SIGCHLD, signal.SIG_IGN))
+        self.assertEqual((done.status, done.messages), (8, b"by_hand: userdel mara: fails with the status 8\n"))
+        self.assertEqual(self.read("plan/by_hand_done"), b"1 begun\n")
+
+    def test_tools_in_the_current_folder(self) -> None:
+        self.write_scripts(people=self.changes(b"userdel mara"))
+        self.stand_in("userdel", "exit 7\n")
+        os.rename(self.path("bin/userdel"), self.path("userdel"))
+        self.stand_in("userdel", 'echo "found $*" >>"%s"\n' % self.path("calls"))
+        for path in (".:%s", ":%s", "bin/..:%s"):
+            done = self.started(path % self.path("bin") + ":/usr/bin:/bin", lambda: None)
+            self.assertEqual((done.status, done.messages, self.calls()), (0, b"", [b"found -- mara"]))
+            os.unlink(self.path("calls"))
+            os.unlink(self.path("plan/by_hand_done"))
 
     def test_names_of_digits_and_dashes(self) -> None:
         people = self.changes(b"gpasswd -a 1005 400", b"gpasswd -d ben 400", b"usermod -g design 1006")
@@ -1031,6 +1065,21 @@ class Lost(UserScripts):
         with mock.patch.object(Command, "say", lambda _command, text: said.append(text)), mock.patch(
                 "pwd.getpwnam", lambda name: mock.Mock(pw_uid=ids[name])):
             return apply.say_removed(Command("facl-apply"), apply.by_hand(way)[1]), said
+
+    def test_an_id_that_another_user_has(self) -> None:
+        """It gets no file back: the next user may have got the id of one who was removed."""
+        named = struct.pack("<I" + "HHI" * 5, 2, 1, 6, acl_bytes.NO_ID, 2, 4, 1003, 4, 4, acl_bytes.NO_ID, 0x10, 4, acl_bytes.NO_ID, 0x20, 0, acl_bytes.NO_ID)
+        mine = Record(1003, 100, 0, acl_bytes.minimal(0o640), b"")
+        records_of = {b"mine": mine, b"lent": mine._replace(owner=0, access=named), b"new": mine._replace(owner=0, default=named),
+                      b"other": mine._replace(owner=1002, group=1003)}
+        way, look = mock.Mock(end=records_of.get), mock.Mock(files=records_of)
+        mara = User(b"mara", 1003, 200)
+        cases: List[Tuple[Optional[str], Set[bytes]]] = [("nell", {b"mine", b"lent", b"new"}), ("mara", set()), (None, set())]
+        for name, found in cases:
+            row = mock.Mock(pw_name=name)
+            with mock.patch("pwd.getpwuid", mock.Mock(return_value=row, side_effect=None if name else KeyError)):
+                held = apply.given_to_others(way, look, [mara])
+            self.assertEqual(held, dict.fromkeys(found, b"would be given back to user nell, who has the id of mara now"))
 
     def test_files_that_went(self) -> None:
         self.write_scripts(["d/gone", "secret/gone", "secret"])

@@ -55,11 +55,13 @@ class HandFiles:
 
     def check_folder(self, opener: Opener, path: bytes) -> None:
         try:
-            seen = identity_of(opener.folder(path))
+            status, (attributes, _) = linux.look_at(opener.folder(path))
         except OSError as error:
             raise live.not_found(error) from error
-        if not self.is_it(path, seen):
+        if not self.is_it(path, Identity(*status[4:])):
             raise Mismatch(b"is another folder than that of the plan")
+        if attributes & linux.APPEND_ONLY:  # Else a folder would be made in it that nobody can remove.
+            raise Mismatch(b"is append-only, so nothing in it can be moved or removed; run chattr -a first")
 
     def check_file(self, it: FileStep, folder: int, name: bytes) -> None:
         """Fails where what has a name in a folder is not the file that goes, or has something in it."""

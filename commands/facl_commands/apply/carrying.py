@@ -125,9 +125,13 @@ class Carrier:
         parts = workers.parts_of(paths) if os.geteuid() == 0 else []
         if len(parts) < 2:
             return [paths]
-        several = {path for path in paths if self.seen[path].names > 1 and not self.seen[path].is_directory}
+        several = {path for path in paths if self.is_of_several(path)}
         return [parts[0] + sorted(several.difference(parts[0]), key=path_order),
                 *([path for path in part if path not in several] for part in parts[1:])]
+
+    def is_of_several(self, path: bytes) -> bool:
+        """Whether a file has other names: hard links, or by the plan the same below another mount, which Linux does not count."""
+        return self.seen[path].names > 1 and not self.seen[path].is_directory or self.way.work.files[path].same > 0
 
     def walk(self, step: Callable[[Opener, bytes], None], paths: Iterable[bytes], is_whole: bool) -> Dict[bytes, bytes]:
         """Does something with each file; returns those with which it could not be done, with the reason. A walk that is
@@ -178,11 +182,11 @@ class Carrier:
             is_done = bool(self.finished) and seen.identity in self.finished and seen.record == end  # By another name.
             if seen != self.seen[path] and not is_done and not is_expected(self.way, path, seen.record):
                 raise Mismatch(b"was changed: " + differences.parts(seen.record, self.way.start(path)))
-            if is_done and seen.names > 1:
+            if is_done:
                 return
             self.changed.append(path)
             change(file, seen.record, end, seen.is_directory)
-            if seen.names > 1:
+            if seen.names > 1 or self.is_of_several(path):
                 self.finished.add(seen.identity)
 
     def stop_at_signal(self) -> None:

@@ -7,9 +7,9 @@ import os
 import pwd
 import signal
 from collections import Counter
-from typing import Callable, Dict, List, Mapping, Tuple
+from typing import Callable, Dict, List, Mapping, Optional, Tuple
 
-from ..base import live
+from ..base import acl_bytes, live
 from ..base.acl_bytes import Record
 from ..base.live import Seen
 from ..base.messages import SIGNALS, Command, Failure, counted, parser_of, reason, signals_wait
@@ -152,10 +152,10 @@ def give_all(command: Command, way: Direction, carrier: Carrier, is_whole: bool)
     if way.is_undo and left:
         return say_in_part(command, way, left)
     if left or carrier.is_stopped() and not way.is_undo:
-        say_list(command, way, left)
-        left = carrier.put_back()
-        if left:
-            return say_in_part(command, way, left)
+        still_left = carrier.put_back()
+        say_list(command, way, left)  # Then nothing is half-changed while a terminal or pipe waits for its reader.
+        if still_left:
+            return say_in_part(command, way, still_left)
         end(command, way, carrier, plan_folder.UNDONE)
         command.say(b"restored the old owners, groups, flags and ACLs")
         return NOT_DONE
@@ -195,6 +195,27 @@ def is_there(user: User) -> bool:
         return False
 
 
+def name_now(uid: int) -> Optional[bytes]:
+    """The user who has an id."""
+    try:
+        return os.fsencode(pwd.getpwuid(uid).pw_name)
+    except KeyError:
+        return None
+
+
+def given_to_others(way: Direction, look: Look, removed: List[User]) -> Dict[bytes, bytes]:
+    """The files that would be given back to the id of a user whom by_hand has removed, where another user has it now."""
+    holders = {it.uid: (it.name, name_now(it.uid)) for it in removed}
+    texts = {uid: b"would be given back to user %s, who has the id of %s now" % (write_name(holder), write_name(name))
+             for uid, (name, holder) in holders.items() if holder is not None and holder != name}
+    found: Dict[bytes, bytes] = {}
+    for path in look.files if texts else ():
+        ids = acl_bytes.users_of(way.end(path)) & texts.keys()
+        if ids:
+            found[path] = texts[min(ids)]
+    return found
+
+
 def by_hand(way: Direction) -> Tuple[List[bytes], List[User]]:
     """The line that names what is to be done by hand, where there is something, and of a way back whom by_hand has removed. It is
     read before anything is touched: what cannot be read has no part in what is said of the files."""
@@ -222,7 +243,7 @@ def body(command: Command, words: List[str]) -> int:
     if meta.is_of_another_host(about):
         command.say(b"warning: the snapshot is " + about.text() + b", not of this host")
     look = look_at(way, way.work.files)
-    changed = unexpected(way, look)
+    changed = {**given_to_others(way, look, removed), **unexpected(way, look)}
     say_cut_off(command, way, look)
     if changed and not given.leave_changed:
         say_changed(command, way, look, changed)

@@ -6,11 +6,11 @@ import os
 import stat
 from typing import Dict, Iterable, List, NamedTuple, Optional, Set, Tuple
 
-from ..base import linux, live
+from ..base import linux, live, trusted
 from ..base.acl_bytes import Record, is_minimal, permissions_of
 from ..base.linux import Identity, Mount
 from ..base.live import NotFound, Opener, OpenFile, Seen
-from ..base.names import is_below
+from ..base.names import directories_above, is_below
 from ..planned import differences, plan_files, plan_folder
 from ..planned.plan_files import Devices, Journal, Work
 from ..planned.plan_folder import PlanFolder
@@ -159,6 +159,15 @@ def unexpected(way: Direction, look: Look) -> Dict[bytes, bytes]:
     return found
 
 
+def opens_way_to_plan(way: Direction) -> Dict[bytes, bytes]:
+    """The directories above a plan, or the plan, that others could write by their new records, so that nobody would trust it."""
+    place = os.path.realpath(way.folder.name).lstrip(b"/")
+    ends = {path: way.end(path) for path in (place, *directories_above(place)) if path in way.work.files}
+    return {path: b"leads to the plan, and others could write there, so that it could not be taken back: move the plan first"
+            for path, end in ends.items() if not end.flags & stat.S_ISVTX or end.owner not in (0, os.geteuid())
+            if trusted.doubt_by(permissions_of(end.access), *end.ids(), lambda: not is_minimal(end.access)) is not None}
+
+
 class Obstacles:
     """Looks for what is known before, with each mount looked at once."""
 
@@ -216,10 +225,10 @@ class Obstacles:
     def all(self, look: Look) -> Dict[bytes, bytes]:
         """The obstacles of all files. One itself has to be opened if its mount is not known yet or may hinder it, or if its owner
         changes."""
-        found, is_root = {}, os.geteuid() == 0
+        found, is_root = {} if self.way.is_undo else opens_way_to_plan(self.way), os.geteuid() == 0
         with Opener() as opener:
             for path, seen in look.files.items():
-                fault = None if is_root else self.of_right(path, seen)
+                fault = found.get(path) or (None if is_root else self.of_right(path, seen))
                 if not self.way.is_undo:  # Which takes back the other files.
                     fault = fault or live.fixed(seen)
                 if fault is None and (seen.beside[1] not in self.free or seen.record.ids() != self.way.end(path).ids()):

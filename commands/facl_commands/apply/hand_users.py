@@ -12,7 +12,7 @@ from ..base.user_tools import ADD_MEMBER, ADD_USER, MEMBERSHIPS, REMOVE_USER, Pe
 from ..planned.by_hand import PeopleStep, line_of
 from ..planned.hand_notes import BEGUN, FINISHED, FOUND, UNDONE, Doing
 from .carrying import Mismatch
-from .name_service import ENVIRONMENT, NOT_FOUND, Row, getent, look_up, row_with, tool_of
+from .name_service import NOT_FOUND, Row, environment, getent, look_up, row_with, tool_of
 
 GONE = (b"user %s: is not there, or a directory service does not answer, so userdel is not run: see that the user is removed, and "
         b"put a # before this line")
@@ -64,7 +64,7 @@ def run_tool(change: PeopleChange) -> int:
     """Runs the tool that makes a change, to its end, also if a signal comes; returns its status."""
     out = subprocess.DEVNULL if change.kind in MEMBERSHIPS else None
     with signals_wait():
-        return subprocess.run([tool_of(change.tool()), *change.words()[1:]], stdout=out, env=ENVIRONMENT, check=False,
+        return subprocess.run([tool_of(change.tool()), *change.words()[1:]], stdout=out, env=environment(), check=False,
                               preexec_fn=lambda: signal.pthread_sigmask(signal.SIG_UNBLOCK, SIGNALS)).returncode
 
 

@@ -5,7 +5,7 @@ from __future__ import annotations
 import os
 import shutil
 import subprocess
-from typing import NamedTuple, Optional, Tuple
+from typing import Dict, NamedTuple, Optional, Tuple
 
 from ..base.programs import environment_of_called
 from ..base.messages import Failure
@@ -13,7 +13,6 @@ from ..base.names import write_name
 from .carrying import Mismatch
 
 NOT_FOUND = 2  # The status of getent where there is no such row.
-ENVIRONMENT = {**environment_of_called(), "LC_ALL": "C", "PATH": os.environ.get("PATH", os.defpath) + ":/usr/sbin:/sbin"}
 Ids = Tuple[bytes, bytes]  # UID and GID of a user, GID and MEMBERS of a group.
 
 
@@ -27,15 +26,20 @@ class Row(NamedTuple):
         return self.local is not None and self.found is not None and self.local[0] == self.found[0]
 
 
+def environment() -> Dict[str, str]:
+    """That of the tools, which are in folders that the path of a user may lack."""
+    return {**environment_of_called(), "LC_ALL": "C", "PATH": os.environ.get("PATH", os.defpath) + ":/usr/sbin:/sbin"}
+
+
 def tool_of(name: bytes) -> bytes:
-    found = shutil.which(os.fsdecode(name), path=ENVIRONMENT["PATH"])
+    found = shutil.which(os.fsdecode(name), path=environment()["PATH"])
     if found is None:
         raise Failure(name + b": is not installed", 1)
     return os.fsencode(found)
 
 
 def getent(*words: bytes) -> Tuple[int, bytes]:
-    done = subprocess.run([tool_of(b"getent"), *words], stdout=subprocess.PIPE, env=ENVIRONMENT, check=False)
+    done = subprocess.run([tool_of(b"getent"), *words], stdout=subprocess.PIPE, env=environment(), check=False)
     return done.returncode, done.stdout
 
 

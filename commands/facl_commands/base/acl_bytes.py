@@ -6,7 +6,7 @@ from __future__ import annotations
 
 import struct
 from functools import lru_cache
-from typing import Dict, Iterator, NamedTuple, Tuple
+from typing import Dict, Iterator, NamedTuple, Set, Tuple
 
 ACCESS, DEFAULT = b"system.posix_acl_access", b"system.posix_acl_default"
 HEAD = struct.pack("<I", 2)  # The version.
@@ -39,6 +39,12 @@ def entries_of(data: bytes) -> Entries:
     if data[:4] != HEAD:
         raise struct.error("not the version 2")
     return {(tag, number if tag in NAMED else NO_ID): permissions for tag, permissions, number in ENTRY.iter_unpack(data[4:])}
+
+
+def users_of(record: Record) -> Set[int]:
+    """The ids of the users whom a record names."""
+    lists = [entries_of(data) for data in (record.access, record.default) if data]
+    return {record.owner, *(number for entries in lists for tag, number in entries if tag == USER)}
 
 
 def bytes_of(entries: Entries) -> bytes:

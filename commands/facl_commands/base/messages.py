@@ -189,9 +189,18 @@ def open_streams() -> None:
     sys.stderr = sys.stderr or open(2, "w", closefd=False)
 
 
+def begin_children() -> None:
+    """Mends what the caller can leave: where SIGCHLD is ignored, each child seems to end with status 0; and a folder of the path
+    that does not start at the root is found in the current one, where anybody can have put a program."""
+    signal.signal(signal.SIGCHLD, signal.SIG_DFL)
+    if "PATH" in os.environ:
+        os.environ["PATH"] = ":".join(it for it in os.environ["PATH"].split(":") if it.startswith("/")) or os.defpath
+
+
 def run(name: str, body: Callable[[Command, List[str]], int], goes_on: bool = False) -> NoReturn:
     """Runs the command of this name, and ends with its status."""
     open_streams()
+    begin_children()
     gc.disable()  # What a command keeps it needs to its end, which is soon; a prompt switches it on again.
     try:
         for number in SIGNALS:

@@ -14,7 +14,7 @@ import re
 import stat
 from copy import copy
 from functools import partial
-from typing import IO, List, Optional
+from typing import IO, Callable, List, Optional
 
 from . import acl_bytes, linux
 from .messages import Failure, failing, reason
@@ -62,11 +62,16 @@ def doubt_of(descriptor: int, look: os.stat_result, may_be_sticky: bool = True) 
         return BY_SERVER
     if stat.S_ISLNK(look.st_mode) or may_be_sticky and stat.S_ISDIR(look.st_mode) and look.st_mode & stat.S_ISVTX:
         return None
-    if look.st_mode & stat.S_IWOTH:
+    return doubt_by(look.st_mode, look.st_uid, look.st_gid, lambda: has_list(descriptor))
+
+
+def doubt_by(mode: int, owner: int, group: int, is_listed: Callable[[], bool]) -> Optional[int]:
+    """The same by a mode, the owner's id, and whether there is a list."""
+    if owner not in (0, os.geteuid()):
+        return OF_OTHER
+    if mode & stat.S_IWOTH:
         return BY_ALL
-    if look.st_mode & stat.S_IWGRP and (has_list(descriptor) or not is_own_group(look.st_gid, look.st_uid)):
-        return BY_OTHERS
-    return None
+    return BY_OTHERS if mode & stat.S_IWGRP and (is_listed() or not is_own_group(group, owner)) else None
 
 
 def fault_of(descriptor: int, look: os.stat_result) -> Optional[bytes]:

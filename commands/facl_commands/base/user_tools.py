@@ -29,11 +29,11 @@ class PeopleChange(NamedTuple):
         return self.kind.split(b" ")[0]
 
     def words(self, is_shown: bool = False) -> List[bytes]:
-        """The tool with its words. It gets numbers of groups where it takes a name of digits for an id. A person reads names,
-        and -- before what looks like an option alone."""
+        """The tool with its words. It gets numbers of groups where it takes a name of digits for an id, and makes no home, as some
+        systems have it do. A person reads names, and -- before what looks like an option alone."""
         name = is_shown and self.group and not self.group.isdigit()
         ids = [b"-g", self.group if name else b"%d" % self.gid]
-        options: Dict[bytes, List[bytes]] = {CHANGE_GROUP: ids, ADD_USER: [b"-u", b"%d" % self.user.uid, *ids], REMOVE_USER: []}
+        options: Dict[bytes, List[bytes]] = {CHANGE_GROUP: ids, ADD_USER: [*[b"-M"] * (not is_shown), b"-u", b"%d" % self.user.uid, *ids], REMOVE_USER: []}
         chosen = options.get(self.kind, [self.kind[-2:], self.user.name])
         operand = self.group if self.kind in MEMBERSHIPS else self.user.name
         return [self.tool(), *chosen, *[b"--"] * (not is_shown or operand.startswith(b"-")), operand]
