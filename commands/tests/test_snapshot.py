@@ -455,6 +455,13 @@ walking.Walker.look = look
         self.assertFalse(os.path.exists(self.path("third")))
         self.expect_nothing_left()
 
+    def test_a_caller_that_ignores_the_ends_of_programs(self) -> None:
+        """The system would not keep their statuses then: one that refuses the snapshot would look like one that takes it."""
+        done = subprocess.run([self.command, "new", "tree"], cwd=self.folder, env={**os.environ, "FACL": "false"}, capture_output=True,
+                              check=False, preexec_fn=lambda: signal.signal(signal.SIGCHLD, signal.SIG_IGN))
+        self.assertEqual(done.returncode, 1, done)
+        self.assertIn(b"false does not load it", done.stderr)
+
     def test_the_environment_changes_nothing(self) -> None:
         self.expect_status(self.snapshot("new", "tree", POSIXLY_CORRECT="1", CDPATH="/", QUOTING_STYLE="c", LC_ALL="C.UTF-8", PATH="/none",
                                          FACL="/bin/true", TMPDIR="/none", PYTHONPATH="/none"), 0)
@@ -589,6 +596,20 @@ def find(kind, make, place, key):
         done = self.snapshot("new", "tree")
         self.expect_status(done, 0, b"users with an id that another user has too, as ID NAME: 2, first: 70001 ann\n")
         self.assertEqual([row[:5] for row in self.read("new/passwd").splitlines() if b":70001:70001:" in row], [b"ann:x", b"anna:"])
+
+    def test_rows_of_one_name(self) -> None:
+        """Whoever is a member by one of them gets in."""
+        self.write("group.list", self.groups + b"lab:x:70201:dora\nann:x:70001:eve,finn\n70101:x:70301:\n")
+        self.write("passwd.list", self.listed + b"ann:x:70002:70001::/:/bin/sh\n#bob:x:70003:70001::/:/bin/sh\n")
+        done = self.snapshot("new", "tree")
+        self.expect_status(done, 0, b"rows of group with the name of another id, which have their ids for names, as NAME ID: 1, first: lab 70101\n")
+        self.expect_status(done, 0, b"rows of passwd with the name of another id, which have their ids for names, as NAME ID: 1, first: ann 70002\n")
+        rows = self.read("new/group").splitlines()
+        self.assertEqual(rows[:4], [b"root:x:0:", b"ann:x:70001:finn,bea,eve", b"lab:x:70201:dora", b"70101:x:70301:"])
+        self.assertIn(b"70101.:x:70101:carl,4711", rows)
+        self.assertTrue(self.read("new/passwd").startswith(self.listed + b"70002:x:70002:70001::/:/bin/sh\n"))
+        self.assertIn(b"\ngroups %d\n" % len(rows), self.read("new/meta"))
+        self.assertIn(b"which are left out: 1, first: #bob\n", done.messages)
 
     def test_where_they_are_missing(self) -> None:
         """It says what to do, with --quiet too."""

@@ -56,6 +56,13 @@ class Chosen(VerbCase):
         os.rmdir(self.store)
         self.assertEqual(self.fails(), where + b": has no snapshot; make one: facl snapshot FOLDER")
 
+    def test_a_user_without_a_home(self) -> None:
+        """No folder of where the caller is, as `~`, is taken for it."""
+        for home in ("~", "rel"):
+            with mock.patch.dict(os.environ, {"FACL_STORE": "", "XDG_STATE_HOME": "rel", "HOME": home}), mock.patch.object(
+                    os, "geteuid", lambda: 77777):
+                self.assertEqual(self.fails(), b"you have no home directory: name a store with $FACL_STORE")
+
     def test_of_another_host(self) -> None:
         self.stored("one", "elsewhere")
         text = os.fsencode(self.store) + b": has no snapshot of this host; name one with -s: one"

@@ -2,6 +2,7 @@
 from __future__ import annotations
 
 import os
+import pwd
 import unittest
 from unittest import mock
 
@@ -135,6 +136,14 @@ class Folders(Case):
                                                          b"ACL), so it is not trusted\n")
         os.chmod(self.path("before"), 0o750)
         self.assertEqual(self.run_command("facl-ask", ["before", "edits"]).status, 0)
+
+
+class Owners(unittest.TestCase):
+    def test_the_name_of_an_owner(self) -> None:
+        """It may be any bytes, as those of another encoding."""
+        row = pwd.struct_passwd(("b\udce9b", "x", STRANGER, STRANGER, "", "/", "/bin/sh"))
+        with mock.patch.object(pwd, "getpwuid", lambda _: row):
+            self.assertEqual(trusted.owner_name(STRANGER), b"b\351b")
 
 
 class PlansInTheirPlace(RealCase):

@@ -194,6 +194,7 @@ def run(name: str, body: Callable[[Command, List[str]], int], goes_on: bool = Fa
     open_streams()
     gc.disable()  # What a command keeps it needs to its end, which is soon; a prompt switches it on again.
     try:
+        signal.signal(signal.SIGCHLD, signal.SIG_DFL)  # Where a caller had it ignored, no status of a program would be known.
         for number in SIGNALS:
             if signal.getsignal(number) != signal.SIG_IGN:
                 signal.signal(number, interrupt)

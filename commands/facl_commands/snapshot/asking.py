@@ -33,10 +33,13 @@ class Account(NamedTuple):
     def row(self) -> bytes:
         return self.start + b",".join(self.members)
 
+    def renamed(self, name: bytes) -> Account:
+        return self._replace(start=name + self.start[len(self.name):], name=name)
+
     def is_taken(self) -> bool:
-        """Whether the program takes the row. Entries of NIS, as +user, have no ids."""
+        """Whether the program takes the row, which is a comment where it begins with #. Entries of NIS, as +user, have no ids."""
         row = self.row()
-        return (self.name != b"" and self.name[:1] not in (b"+", b"-") and max(self.ids) <= LAST_ID
+        return (self.name != b"" and self.name[:1] not in (b"+", b"-", b"#") and max(self.ids) <= LAST_ID
                 and b"\n" not in row and row.count(b":") == COLONS[len(self.ids)])
 
 

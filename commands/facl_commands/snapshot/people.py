@@ -1,6 +1,7 @@
 """The users and groups of a snapshot: those of the lists, and those whom files, groups and --users name and the lists lack."""
 from __future__ import annotations
 
+from itertools import chain, count
 from typing import AbstractSet, Callable, Dict, Iterable, List, Set, Tuple
 
 from ..base import trusted
@@ -29,8 +30,25 @@ class Accounts:
         """Those of some ids that nobody has."""
         return {*(ids - {it.ids[0] for it in self.all})}
 
+    def rows(self) -> List[Account]:
+        """One for each name, since the program counts the first row of a name alone, and the system lets in the members of all:
+        a further row of the same id gives its members to the first one, and one of another id has that for its name."""
+        found: Dict[bytes, Account] = {}
+        for it in self.all:
+            numbers = (b"%d" % it.ids[0] + b"." * dots for dots in count())
+            name = next(name for name in chain([it.name], numbers) if found.get(name, it).ids[0] == it.ids[0])
+            first = found.setdefault(name, it.renamed(name))
+            if not {*it.members} <= {*first.members}:
+                found[name] = first._replace(members=(*dict.fromkeys(first.members + it.members),))
+        return [*found.values()]
+
+    def renamed(self) -> List[bytes]:
+        """The names and ids of those who have another name in their rows."""
+        known = {(it.name, it.ids[0]) for it in self.rows()}
+        return sorted(b"%s %d" % it for it in {(it.name, it.ids[0]) for it in self.all} - known)
+
     def text(self) -> bytes:
-        return b"".join(it.row() + b"\n" for it in self.all)
+        return b"".join(it.row() + b"\n" for it in self.rows())
 
     def ask(self, keys: AbstractSet[Key]) -> bool:
         """Looks up those that were not looked up yet, and adds them at the end; whether there is one that was not known."""
@@ -101,15 +119,15 @@ class PeopleOfSystem:
         """The lines of meta."""
         kinds = ((b"users", self.users), (b"groups", self.groups))
         return b"".join(
-            [b"%s %d\n%s-asked-for %d\n" % (kind, len(accounts.all), kind, accounts.found) for kind, accounts in kinds]
+            [b"%s %d\n%s-asked-for %d\n" % (kind, len(accounts.rows()), kind, accounts.found) for kind, accounts in kinds]
             + [b"%s-left-out %d\n" % (kind, len(accounts.odd)) for kind, accounts in kinds])
 
     def said(self) -> bytes:
         """In the last line."""
-        text = b"%d users, " % len(self.users.all)
+        text = b"%d users, " % len(self.users.rows())
         if self.users.found:
             text += b"of whom %d are not in the list of getent: asked for by id or name, " % self.users.found
-        return text + b"%d groups" % len(self.groups.all)
+        return text + b"%d groups" % len(self.groups.rows())
 
 
 def fail_of_line(name: bytes, lines: Iterable[bytes], is_wrong: Callable[[bytes], bool], text: bytes) -> None:
@@ -150,6 +168,8 @@ def warned_of(people: PeopleOfSystem) -> List[Warned]:
         warned(b"members of groups without a row in passwd", sorted(people.members() - people.users.names())),
         warned(b"users with an id that another user has too, as ID NAME",
                sorted(b"%d %s" % (number, name) for number, its in by_id.items() if len(its) > 1 for name in its)),
+        *(warned(b"rows of " + kind + b" with the name of another id, which have their ids for names, as NAME ID", accounts.renamed())
+          for kind, accounts in kinds),
         *(warned(b"rows of " + kind + b" with a carriage return, which facl takes for a part of a name",
                  [it.name for it in accounts.all if b"\r" in it.row()]) for kind, accounts in kinds),
         *(warned(b"rows of " + kind + b" without a name, an id or a field, which are left out",

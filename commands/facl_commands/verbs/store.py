@@ -91,8 +91,11 @@ def place() -> bytes:
         return os.path.abspath(given)
     if os.geteuid() == 0:
         return OF_ROOT
-    state = os.environb.get(b"XDG_STATE_HOME", b"")
-    return os.path.join(state if state.startswith(b"/") else os.path.expanduser(b"~/.local/state"), b"facl")
+    state, home = os.environb.get(b"XDG_STATE_HOME", b""), os.path.expanduser(b"~/.local/state")
+    found = state if state.startswith(b"/") else home
+    if not found.startswith(b"/"):
+        raise Failure(b"you have no home directory: name a store with $" + STORE)
+    return os.path.join(found, b"facl")
 
 
 def made_place() -> bytes:
