@@ -24,7 +24,9 @@ from facl_commands.base import acl_bytes, beside, names, workers
 from facl_commands.base.accounts import is_person
 from facl_commands.base.names import path_order
 from facl_commands.page import columns as page_columns
-from facl_commands.snapshot import in_order, list_texts, runs, scope, walking
+from facl_commands.snapshot import asking, in_order, list_texts, runs, scope, walking
+from facl_commands.snapshot.asking import Account, Service
+from facl_commands.snapshot.people import Accounts
 
 FILES = ["dump", "group", "inodes", "links", "marks", "meta", "passwd"]
 # The first folder that is made has a signal wait.
@@ -610,6 +612,17 @@ def find(kind, make, place, key):
         self.assertTrue(self.read("new/passwd").startswith(self.listed + b"70002:x:70002:70001::/:/bin/sh\n"))
         self.assertIn(b"\ngroups %d\n" % len(rows), self.read("new/meta"))
         self.assertIn(b"which are left out: 1, first: #bob\n", done.messages)
+
+    def test_a_group_of_many(self) -> None:
+        """No row is longer than the program takes, and nobody is left out."""
+        names = [b"member%05d" % number for number in range(12_000)]
+        accounts = Accounts(Service(), asking.group_by, [Account(b"all:x:70500:", b"all", (70500,), (*names,)),
+                                                         Account(b"70500:x:7:", b"70500", (7,), (b"ann",))])
+        rows = accounts.text().splitlines()
+        self.assertLess(max(map(len, rows)), 65_536)
+        self.assertEqual([row.split(b":")[:3] for row in rows], [it.split() for it in (
+            b"all x 70500", b"70500 x 7", b"70500. x 70500", b"70500.. x 70500")])
+        self.assertEqual([name for row in rows if b":x:70500:" in row for name in row.split(b":")[3].split(b",")], names)
 
     def test_where_they_are_missing(self) -> None:
         """It says what to do, with --quiet too."""

@@ -2,7 +2,7 @@
 from __future__ import annotations
 
 from itertools import chain, count
-from typing import AbstractSet, Callable, Dict, Iterable, List, Set, Tuple
+from typing import AbstractSet, Callable, Dict, Iterable, Iterator, List, Set, Tuple
 
 from ..base import trusted
 from ..base.accounts import is_person
@@ -12,6 +12,25 @@ from .asking import Account, Key, Service
 from .runs import Sums, Warned
 
 LONGEST_USER = 256  # Bytes of a name in the file of --users.
+LONGEST_ROW = 65_000  # Bytes, with room for another name: the program takes 65,536.
+
+
+def numbers_of(it: Account) -> Iterator[bytes]:
+    """Names that an account can have in the place of its own."""
+    return (b"%d" % it.ids[0] + b"." * dots for dots in count())
+
+
+def pieces_of(it: Account) -> List[Account]:
+    """Rows that are not too long, with all members of a group."""
+    pieces: List[List[bytes]] = [[]]
+    room = LONGEST_ROW - len(it.start)
+    for name in it.members:
+        room -= len(name) + 1
+        if room < 0 and pieces[-1]:
+            pieces.append([])
+            room = LONGEST_ROW - len(it.start) - len(name) - 1
+        pieces[-1].append(name)
+    return [it._replace(members=(*members,)) for members in pieces]
 
 
 class Accounts:
@@ -32,14 +51,19 @@ class Accounts:
 
     def rows(self) -> List[Account]:
         """One for each name, since the program counts the first row of a name alone, and the system lets in the members of all:
-        a further row of the same id gives its members to the first one, and one of another id has that for its name."""
+        a further row of the same id gives its members to the first one, and one of another id has that for its name. So have
+        those after the first one of a group whose row would be too long."""
         found: Dict[bytes, Account] = {}
         for it in self.all:
-            numbers = (b"%d" % it.ids[0] + b"." * dots for dots in count())
-            name = next(name for name in chain([it.name], numbers) if found.get(name, it).ids[0] == it.ids[0])
+            name = next(name for name in chain([it.name], numbers_of(it)) if found.get(name, it).ids[0] == it.ids[0])
             first = found.setdefault(name, it.renamed(name))
             if not {*it.members} <= {*first.members}:
                 found[name] = first._replace(members=(*dict.fromkeys(first.members + it.members),))
+        for it in [it for it in found.values() if len(it.row()) > LONGEST_ROW]:
+            found[it.name], *more = pieces_of(it)
+            for piece in more:
+                name = next(name for name in numbers_of(it) if name not in found)
+                found[name] = piece.renamed(name)
         return [*found.values()]
 
     def renamed(self) -> List[bytes]:
