@@ -146,6 +146,19 @@ class Owners(unittest.TestCase):
             self.assertEqual(trusted.owner_name(STRANGER), b"b\351b")
 
 
+class Mounts(Case):
+    """What is mounted is a word of whoever did it, as any user by fusermount -o fsname=WORD."""
+
+    def test_odd_words(self) -> None:
+        self.write("mounts", b"36 35 0:50 / /mnt rw - fuse.a  rw,user_id=54321,group_id=7\n"
+                             b"37 35 0:51 / /own rw - fuse - rw,user_id=54321\n"
+                             b"38 35 0:52 / /odd rw - fuse user_id=0 rw,user_id=54321\n"
+                             b"39 35 0:53 / /over rw shared:1 - overlay - rw,lowerdir=/a\n")
+        with mock.patch.object(linux, "MOUNTS_FILE", self.path("mounts")), mock.patch.object(linux, "file_system_of", lambda _: linux.FUSE):
+            found = [linux.server_of(0, os.makedev(0, minor)) for minor in (50, 51, 52, 53)]
+            self.assertEqual((found, linux.overlays()), ([STRANGER, STRANGER, STRANGER, None], {b"0:53"}))
+
+
 class PlansInTheirPlace(RealCase):
     """A plan that was used is the way back, and is never removed; nor is what others have put there."""
 
