@@ -11,6 +11,7 @@
 # the environment all goes below that folder. The exit status is 2 if the words are others, there is no program, or PREFIX
 # cannot be written.
 set -eu
+umask 022 # Nobody else writes what root runs, and everybody reads it, whatever the caller's is.
 top=$(cd "$(dirname "$0")/.." && pwd)
 # shellcheck source=tools/lib/program.sh
 . "$top/tools/lib/program.sh"

@@ -2,6 +2,7 @@
 signals, in a folder that it cannot use, without a text; the mail that says so, and what the next run says and removes."""
 from __future__ import annotations
 
+import email
 import fcntl
 import os
 import shutil
@@ -240,6 +241,19 @@ class Unsaid(Stubbed):
         self.assertEqual(self.daily(), 1)
         last = list(self.states())[-1]
         self.assertIn(f"A to B, in {self.kept}/{last}\n".encode(), self.take("stubs/mails"))
+
+    def test_a_long_line(self) -> None:
+        """No server refuses the mail for it."""
+        name = b"/srv/" + b"long/" * 200 + "\u00e9 =41".encode()
+        self.set_state(name)
+        self.assertEqual(self.daily(), 1)
+        text = self.take("stubs/mails")
+        self.assertLessEqual(max(map(len, text.split(b"\n"))), 998)
+        mail = email.message_from_bytes(text)
+        self.assertEqual(mail.get_content_type(), "text/plain")
+        body = mail.get_payload(decode=True)
+        assert isinstance(body, bytes)
+        self.assertIn(b"\nA to " + name + b", in ", body)
 
 
 class Places(Stubbed):

@@ -4,8 +4,10 @@ from __future__ import annotations
 import os
 import pty
 import shutil
+import stat
 import subprocess
 import unittest
+from functools import partial
 from typing import List, Tuple
 
 from common import COMMANDS, Case, Done
@@ -128,6 +130,17 @@ class Words(Case):
 
     def test_version(self) -> None:
         self.assertEqual(self.verb("--version").out.split(b"\n")[0], b"facl 0")
+
+
+class Installed(Case):
+    def test_whatever_the_umask(self) -> None:
+        """Nobody else can write what root runs, as a module that is compiled, and everybody can read it."""
+        install = os.path.join(COMMANDS, "..", "tools", "install.sh")
+        subprocess.run([install, "--program", "/bin/true", "--linux-program", "/bin/true", self.path("usr")], check=True,
+                       capture_output=True, preexec_fn=partial(os.umask, 0o005))
+        places = [os.path.join(folder, name) for folder, _, names in os.walk(self.path("usr")) for name in (".", *names)]
+        modes = {stat.S_IMODE(os.lstat(it).st_mode) for it in places if not os.path.islink(it)}
+        self.assertEqual(modes, {0o755, 0o644})
 
 
 if __name__ == "__main__":

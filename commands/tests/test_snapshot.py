@@ -24,7 +24,10 @@ from facl_commands.base import acl_bytes, beside, names, workers
 from facl_commands.base.accounts import is_person
 from facl_commands.base.names import path_order
 from facl_commands.page import columns as page_columns
-from facl_commands.snapshot import in_order, list_texts, runs, scope, walking
+from facl_commands.snapshot import asking, in_order, list_texts, runs, scope, walking
+from facl_commands.base.accounts import Account
+from facl_commands.snapshot.asking import Service
+from facl_commands.snapshot.people import Accounts
 
 FILES = ["dump", "group", "inodes", "links", "marks", "meta", "passwd"]
 # The first folder that is made has a signal wait.
@@ -470,6 +473,13 @@ walking.Walker.look = look
         self.assertFalse(os.path.exists(self.path("third")))
         self.expect_nothing_left()
 
+    def test_a_caller_that_ignores_the_ends_of_programs(self) -> None:
+        """The system would not keep their statuses then: one that refuses the snapshot would look like one that takes it."""
+        done = subprocess.run([self.command, "new", "tree"], cwd=self.folder, env={**os.environ, "FACL": "false"}, capture_output=True,
+                              check=False, preexec_fn=lambda: signal.signal(signal.SIGCHLD, signal.SIG_IGN))
+        self.assertEqual(done.returncode, 1, done)
+        self.assertIn(b"false does not load it", done.stderr)
+
     def test_the_environment_changes_nothing(self) -> None:
         self.expect_status(self.snapshot("new", "tree", POSIXLY_CORRECT="1", CDPATH="/", QUOTING_STYLE="c", LC_ALL="C.UTF-8", PATH="/none",
                                          FACL="/bin/true", TMPDIR="/none", PYTHONPATH="/none"), 0)
@@ -605,16 +615,30 @@ def find(kind, make, place, key):
         self.expect_status(done, 0, b"users with an id that another user has too, as ID NAME: 2, first: 70001 ann\n")
         self.assertEqual([row[:5] for row in self.read("new/passwd").splitlines() if b":70001:70001:" in row], [b"ann:x", b"anna:"])
 
-    def test_groups_of_one_name(self) -> None:
-        """A user is in the groups of all rows that name the user, as initgroups(3) has it: the program counts one row of a name."""
-        self.write("group.list", self.groups + b"lab:x:500:ann\nlab:x:500:finn,ann\nlab:x:501:ann\n501:x:7:ann\nlab:x:501:finn\n")
+    def test_rows_of_one_name(self) -> None:
+        """Whoever is a member by one of them gets in."""
+        self.write("group.list", self.groups + b"lab:x:70201:dora\nann:x:70001:eve,finn\n70101:x:70301:\n")
+        self.write("passwd.list", self.listed + b"ann:x:70002:70001::/:/bin/sh\n#bob:x:70003:70001::/:/bin/sh\n")
         done = self.snapshot("new", "tree")
-        self.expect_status(done, 0, b"groups with a name that another group has too, of which facl names the others by their ids, "
-                                    b"as ID NAME: 3, first: 500 lab\n")
+        self.expect_status(done, 0, b"rows of group with the name of another id, which have their ids for names, as NAME ID: 1, first: lab 70101\n")
+        self.expect_status(done, 0, b"rows of passwd with the name of another id, which have their ids for names, as NAME ID: 1, first: ann 70002\n")
         rows = self.read("new/group").splitlines()
-        for row in (b"lab:x:500:ann,finn", b"501:x:501:ann,finn", b"7:x:7:ann", b"70101:x:70101:carl,4711"):
-            self.assertIn(row, rows)
-        self.assertEqual(len({row.split(b":")[0] for row in rows}), len(rows))
+        self.assertEqual(rows[:4], [b"root:x:0:", b"ann:x:70001:finn,bea,eve", b"lab:x:70201:dora", b"70101:x:70301:"])
+        self.assertIn(b"070101:x:70101:carl,4711", rows)
+        self.assertTrue(self.read("new/passwd").startswith(self.listed + b"70002:x:70002:70001::/:/bin/sh\n"))
+        self.assertIn(b"\ngroups %d\n" % len(rows), self.read("new/meta"))
+        self.assertIn(b"which are left out: 1, first: #bob\n", done.messages)
+
+    def test_a_group_of_many(self) -> None:
+        """No row is longer than the program takes, and nobody is left out."""
+        names = [b"member%05d" % number for number in range(12_000)]
+        accounts = Accounts(Service(), asking.group_by, [Account(b"all:x:70500:", b"all", (70500,), (*names,)),
+                                                         Account(b"70500:x:7:", b"70500", (7,), (b"ann",))])
+        rows = accounts.text().splitlines()
+        self.assertLess(max(map(len, rows)), 65_536)
+        self.assertEqual([row.split(b":")[:3] for row in rows], [it.split() for it in (
+            b"all x 70500", b"70500 x 7", b"070500 x 70500", b"0070500 x 70500")])
+        self.assertEqual([name for row in rows if b":x:70500:" in row for name in row.split(b":")[3].split(b",")], names)
 
     def test_where_they_are_missing(self) -> None:
         """It says what to do, with --quiet too."""

@@ -5,6 +5,7 @@ import datetime
 import fcntl
 import json
 import os
+import re
 import subprocess
 import unittest
 from typing import Dict, List
@@ -55,6 +56,13 @@ class Chosen(VerbCase):
         self.assertEqual(self.fails(), where + b": has no snapshot; make one: facl snapshot FOLDER")
         os.rmdir(self.store)
         self.assertEqual(self.fails(), where + b": has no snapshot; make one: facl snapshot FOLDER")
+
+    def test_a_user_without_a_home(self) -> None:
+        """No folder of where the caller is, as `~`, is taken for it."""
+        for home in ("~", "rel"):
+            with mock.patch.dict(os.environ, {"FACL_STORE": "", "XDG_STATE_HOME": "rel", "HOME": home}), mock.patch.object(
+                    os, "geteuid", lambda: 77777):
+                self.assertEqual(self.fails(), b"you have no home directory: name a store with $FACL_STORE")
 
     def test_of_another_host(self) -> None:
         self.stored("one", "elsewhere")
@@ -257,6 +265,22 @@ class Prune(VerbCase):
 
     def three(self) -> Dict[str, str]:
         return {name: self.stored(name, seconds=days * DAY) for name, days in (("new", 0), ("older", 1), ("oldest", 2))}
+
+    def test_times_of_a_wrong_clock(self) -> None:
+        """One that is still to come takes nobody's place; times that no zone has end nothing."""
+        self.stored("ahead", seconds=-9 * DAY)
+        new, text = self.stored("new"), b"of a time that is still to come, so a clock was wrong"
+        for name, date in (("first", "0001-01-01T00:00:00Z"), ("last", "9999-12-31T23:59:59Z")):
+            meta = re.sub(b"(?m)^date .*", b"date " + date.encode(), self.read(os.path.join(self.stored(name), "meta")))
+            self.write(f"store/{name}/meta", meta)
+        for zone in ("UTC", "XXX+12", "XXX-14", "none"):
+            done = self.verb("prune", "--keep-daily", "1", environment={"TZ": zone})
+            self.assertEqual((done.status, done.messages), (3, b""), done)
+            self.assertIn(b"keep    new  daily 1\n", done.out)
+            self.assertIn(b"keep    ahead  " + text + b"\n", done.out)
+        with mock.patch.dict(os.environ, {"FACL_STORE": self.store, "FACL_SNAPSHOT": ""}):
+            self.assertEqual(store.chosen(None).folder, os.fsencode(new))
+            self.assertEqual([*store.notes(store.chosen("ahead"))], [b"the snapshot ahead is " + text])
 
     def test_what_goes(self) -> None:
         folders = self.three()

@@ -2,6 +2,7 @@
 from __future__ import annotations
 
 import os
+import pwd
 import unittest
 from unittest import mock
 
@@ -135,6 +136,27 @@ class Folders(Case):
                                                          b"ACL), so it is not trusted\n")
         os.chmod(self.path("before"), 0o750)
         self.assertEqual(self.run_command("facl-ask", ["before", "edits"]).status, 0)
+
+
+class Owners(unittest.TestCase):
+    def test_the_name_of_an_owner(self) -> None:
+        """It may be any bytes, as those of another encoding."""
+        row = pwd.struct_passwd(("b\udce9b", "x", STRANGER, STRANGER, "", "/", "/bin/sh"))
+        with mock.patch.object(pwd, "getpwuid", lambda _: row):
+            self.assertEqual(trusted.owner_name(STRANGER), b"b\351b")
+
+
+class Mounts(Case):
+    """What is mounted is a word of whoever did it, as any user by fusermount -o fsname=WORD."""
+
+    def test_odd_words(self) -> None:
+        self.write("mounts", b"36 35 0:50 / /mnt rw - fuse.a  rw,user_id=54321,group_id=7\n"
+                             b"37 35 0:51 / /own rw - fuse - rw,user_id=54321\n"
+                             b"38 35 0:52 / /odd rw - fuse user_id=0 rw,user_id=54321\n"
+                             b"39 35 0:53 / /over rw shared:1 - overlay - rw,lowerdir=/a\n")
+        with mock.patch.object(linux, "MOUNTS_FILE", self.path("mounts")), mock.patch.object(linux, "file_system_of", lambda _: linux.FUSE):
+            found = [linux.server_of(0, os.makedev(0, minor)) for minor in (50, 51, 52, 53)]
+            self.assertEqual((found, linux.overlays()), ([STRANGER, STRANGER, STRANGER, None], {b"0:53"}))
 
 
 class PlansInTheirPlace(RealCase):

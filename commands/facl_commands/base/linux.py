@@ -10,7 +10,7 @@ import signal
 import stat
 import struct
 from functools import lru_cache
-from typing import NamedTuple, NoReturn, Optional, Set, Tuple
+from typing import Iterator, NamedTuple, NoReturn, Optional, Set, Tuple
 
 LIBRARY = ctypes.CDLL(None, use_errno=True)
 AT_EMPTY_PATH, AT_SYMLINK_NOFOLLOW, AT_STATX_DONT_SYNC = 0x1000, 0x100, 0x4000
@@ -35,7 +35,7 @@ NO_DESCRIPTOR = -1
 PR_SET_PDEATHSIG = 1
 MOUNTS_FILE = "/proc/self/mountinfo"
 BOOT_FILE = "/proc/sys/kernel/random/boot_id"
-SERVER = re.compile(rb" - fuse\S* \S+ (?:\S*,)?user_id=([0-9]+)")  # In a line of a mount.
+SERVER = re.compile(rb"(?:^|,)user_id=([0-9]+)")  # In the options of a mount.
 # Of a file: mode, owner, group, names, device, inode, and birth in nanoseconds since 1970, 0 if the file system has none.
 Status = Tuple[int, int, int, int, int, int, int]
 Mount = Tuple[int, int]  # A device, and the number of the mount, which is 0 if Linux does not say it.
@@ -84,14 +84,21 @@ def overlay_of(descriptor: int, device: int) -> int:
     return OF_ONE if b"%d:%d" % (os.major(device), os.minor(device)) in overlays() else OF_SEVERAL
 
 
+def mounts() -> Iterator[Tuple[bytes, bytes, bytes]]:
+    """The device, the type and the options of each mount. What is mounted is a word of whoever did it, which may be `-` or empty."""
+    with open(MOUNTS_FILE, "rb") as file:
+        for line in file:
+            first, _, second = line.rstrip(b"\n").partition(b" - ")
+            words = second.split(b" ")
+            yield first.split()[2], words[0], words[-1]
+
+
 def overlays() -> Set[bytes]:
     """The devices of the overlays that are mounted."""
     try:
-        with open(MOUNTS_FILE, "rb") as file:
-            halves = [line.split(b" - ") for line in file]
+        return {device for device, kind, _ in mounts() if kind == b"overlay"}
     except OSError:
         return set()
-    return {first.split()[2] for first, second in halves if second.split()[0] == b"overlay"}
 
 
 def server_of(descriptor: int, device: int) -> Optional[int]:
@@ -99,8 +106,7 @@ def server_of(descriptor: int, device: int) -> Optional[int]:
     if file_system_of(descriptor) != FUSE:
         return None
     number = b"%d:%d" % (os.major(device), os.minor(device))
-    with open(MOUNTS_FILE, "rb") as file:
-        found = [SERVER.search(line) for line in file if line.split()[2] == number]
+    found = [SERVER.search(options) for it, kind, options in mounts() if it == number and kind.startswith(b"fuse")]
     return next((int(match[1]) for match in found if match is not None), None)
 
 

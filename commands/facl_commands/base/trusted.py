@@ -31,7 +31,7 @@ OF_OTHER, BY_ALL, BY_OTHERS, BY_SERVER = range(4)
 
 def owner_name(uid: int) -> bytes:
     try:
-        return pwd.getpwuid(uid).pw_name.encode()
+        return os.fsencode(pwd.getpwuid(uid).pw_name)
     except KeyError:
         return b"user %d" % uid
 

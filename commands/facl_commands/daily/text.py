@@ -1,6 +1,7 @@
 """What facl-daily says of a run, printed or as a mail."""
 from __future__ import annotations
 
+import binascii
 import datetime
 import os
 import re
@@ -12,6 +13,7 @@ from ..base.names import shown
 from .children import Children, environment
 
 SUBJECT_LIMIT = 150  # Bytes.
+LINE_LIMIT = 998  # The same, of a line of a mail (RFC 5322). Servers refuse one with a longer line, as the name of a file can make it.
 
 
 def find_sendmail() -> str:
@@ -63,8 +65,11 @@ class Text:
 
     def mail(self, address: str) -> bytes:
         subject = in_subject(b"facl on %s: %s" % (self.host, b"; ".join(self.reasons) or b"something to look at"))
+        body, encoding = self.body(), b"8bit"
+        if max(map(len, body.split(b"\n"))) > LINE_LIMIT:
+            body, encoding = binascii.b2a_qp(body), b"quoted-printable"
         return (b"To: %s\nSubject: %s\nMIME-Version: 1.0\nContent-Type: text/plain; charset=UTF-8\n"
-                b"Content-Transfer-Encoding: 8bit\n\n%s" % (address.encode(), subject, self.body()))
+                b"Content-Transfer-Encoding: %s\n\n%s" % (address.encode(), subject, encoding, body))
 
     def give(self, command: Command, children: Children, address: str) -> bool:
         """Prints or mails it; whether that was done."""

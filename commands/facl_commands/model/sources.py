@@ -13,7 +13,7 @@ import subprocess
 from typing import Iterator, List, NamedTuple, Optional, Set
 
 from ..base import beside, folders
-from ..base.accounts import groups_of_own_names
+from ..base.accounts import Account, with_own_names
 from ..base.folders import Folder, folder_of
 from ..base.messages import Failure, failing
 from ..base.names import highest, path_word, read_name
@@ -161,12 +161,14 @@ def rows_of_system(database: str, lines: Set[bytes]) -> bytes:
     lacking = sorted(names_in(database, lines) - known)
     for start in range(0, len(lacking), KEYS_AT_ONCE):
         text += getent([word, b"--", *lacking[start : start + KEYS_AT_ONCE]])
-    return text if database == "passwd" else b"".join(b":".join(row) + b"\n" for row in groups_of_own_names(group_rows(text)))
+    return text if database == "passwd" else b"".join(it.row() + b"\n" for it in with_own_names(groups_in(text)))
 
 
-def group_rows(text: bytes) -> List[List[bytes]]:
-    """The rows that the system prints, also those of one name."""
-    return [fields for fields in (row.split(b":") for row in text.split(b"\n")) if len(fields) == 4]
+def groups_in(text: bytes) -> Iterator[Account]:
+    """The groups whose rows the system prints, also those of one name."""
+    for fields in (row.split(b":") for row in text.split(b"\n")):
+        if len(fields) == 4 and fields[2].isdigit():
+            yield Account(b":".join([*fields[:3], b""]), fields[0], (int(fields[2]),), tuple(filter(None, fields[3].split(b","))))
 
 
 def notice(folder: bytes, dump: bytes) -> Optional[bytes]:

@@ -10,34 +10,15 @@ import pwd
 import time
 from contextlib import suppress
 from functools import partial
-from typing import Any, Callable, Iterable, List, NamedTuple, Optional, Sequence, Tuple, Union
+from typing import Any, Callable, Iterable, List, Optional, Sequence, Tuple, Union
 
-from ..base.accounts import LAST_ID
+from ..base.accounts import Account
 from ..base.messages import Failure
 from ..base.workers import Helper
 
 MOST_SECONDS = 300.0  # For all look-ups.
 MANY = 500  # Look-ups of one process.
-COLONS = {2: 6, 1: 3}  # In a row of passwd, which has two ids, and of group.
 Key = Union[int, bytes]  # An id or a name.
-
-
-class Account(NamedTuple):
-    """A user or a group."""
-
-    start: bytes  # Its row, without the members of a group.
-    name: bytes
-    ids: Tuple[int, ...]  # Its own, and the first group of a user.
-    members: Tuple[bytes, ...]
-
-    def row(self) -> bytes:
-        return self.start + b",".join(self.members)
-
-    def is_taken(self) -> bool:
-        """Whether the program takes the row. Entries of NIS, as +user, have no ids."""
-        row = self.row()
-        return (self.name != b"" and self.name[:1] not in (b"+", b"-") and max(self.ids) <= LAST_ID
-                and b"\n" not in row and row.count(b":") == COLONS[len(self.ids)])
 
 
 def account_of(fields: Sequence[Optional[str]], numbers: Tuple[int, ...], members: Iterable[str] = ()) -> Account:

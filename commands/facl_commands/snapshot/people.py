@@ -4,10 +4,10 @@ from __future__ import annotations
 from typing import AbstractSet, Callable, Dict, Iterable, List, Set, Tuple
 
 from ..base import trusted
-from ..base.accounts import groups_of_own_names, is_person
+from ..base.accounts import Account, is_person, with_own_names
 from ..base.messages import Failure, failing
 from . import asking
-from .asking import Account, Key, Service
+from .asking import Key, Service
 from .runs import Sums, Warned
 
 LONGEST_USER = 256  # Bytes of a name in the file of --users.
@@ -29,8 +29,17 @@ class Accounts:
         """Those of some ids that nobody has."""
         return {*(ids - {it.ids[0] for it in self.all})}
 
+    def rows(self) -> List[Account]:
+        """One for each name, as the program needs them."""
+        return with_own_names(self.all)
+
+    def renamed(self) -> List[bytes]:
+        """The names and ids of those who have another name in their rows."""
+        known = {(it.name, it.ids[0]) for it in self.rows()}
+        return sorted(b"%s %d" % it for it in {(it.name, it.ids[0]) for it in self.all} - known)
+
     def text(self) -> bytes:
-        return b"".join(it.row() + b"\n" for it in self.all)
+        return b"".join(it.row() + b"\n" for it in self.rows())
 
     def ask(self, keys: AbstractSet[Key]) -> bool:
         """Looks up those that were not looked up yet, and adds them at the end; whether there is one that was not known."""
@@ -53,7 +62,6 @@ class PeopleOfSystem:
         self.users = Accounts(self.service, asking.user_by, self.service.listed(asking.all_users, "users"))
         self.groups = Accounts(self.service, asking.group_by, self.service.listed(asking.all_groups, "groups"))
         self.memberships: Set[Tuple[int, bytes]] = set()  # Of users that were looked up: group and name.
-        self.one_name: Set[bytes] = set()  # Groups of which another one has the name, as ID NAME.
         self.listed = len(self.users.all)  # Users that are listed, or whose groups were looked up.
 
     def add_named(self, name: bytes) -> None:
@@ -85,7 +93,6 @@ class PeopleOfSystem:
             for ids in (sums.owning_groups, sums.groups | named):
                 is_new |= self.groups.ask(self.groups.lacking(ids))
         self.add_members()
-        self.name_groups()
 
     def members(self) -> Set[bytes]:
         return {name for it in self.groups.all for name in it.members if name}
@@ -99,29 +106,19 @@ class PeopleOfSystem:
             more.setdefault(group, []).append(name)
         self.groups.all = [it._replace(members=(*it.members, *more.get(it.ids[0], ()))) for it in self.groups.all]
 
-    def name_groups(self) -> None:
-        """Has each group a name of its own."""
-        ids: Dict[bytes, Set[int]] = {}
-        for it in self.groups.all:
-            ids.setdefault(it.name, set()).add(it.ids[0])
-        self.one_name.update(b"%d %s" % (gid, name) for name, its in ids.items() if len(its) > 1 for gid in its)
-        rows = groups_of_own_names(it.row().split(b":") for it in self.groups.all)
-        self.groups.all = [Account(b":".join([*row[:3], b""]), row[0], (int(row[2]),), tuple(filter(None, row[3].split(b","))))
-                           for row in rows]
-
     def numbers(self) -> bytes:
         """The lines of meta."""
         kinds = ((b"users", self.users), (b"groups", self.groups))
         return b"".join(
-            [b"%s %d\n%s-asked-for %d\n" % (kind, len(accounts.all), kind, accounts.found) for kind, accounts in kinds]
+            [b"%s %d\n%s-asked-for %d\n" % (kind, len(accounts.rows()), kind, accounts.found) for kind, accounts in kinds]
             + [b"%s-left-out %d\n" % (kind, len(accounts.odd)) for kind, accounts in kinds])
 
     def said(self) -> bytes:
         """In the last line."""
-        text = b"%d users, " % len(self.users.all)
+        text = b"%d users, " % len(self.users.rows())
         if self.users.found:
             text += b"of whom %d are not in the list of getent: asked for by id or name, " % self.users.found
-        return text + b"%d groups" % len(self.groups.all)
+        return text + b"%d groups" % len(self.groups.rows())
 
 
 def fail_of_line(name: bytes, lines: Iterable[bytes], is_wrong: Callable[[bytes], bool], text: bytes) -> None:
@@ -162,8 +159,8 @@ def warned_of(people: PeopleOfSystem) -> List[Warned]:
         warned(b"members of groups without a row in passwd", sorted(people.members() - people.users.names())),
         warned(b"users with an id that another user has too, as ID NAME",
                sorted(b"%d %s" % (number, name) for number, its in by_id.items() if len(its) > 1 for name in its)),
-        warned(b"groups with a name that another group has too, of which facl names the others by their ids, as ID NAME",
-               sorted(people.one_name)),
+        *(warned(b"rows of " + kind + b" with the name of another id, which have their ids for names, as NAME ID", accounts.renamed())
+          for kind, accounts in kinds),
         *(warned(b"rows of " + kind + b" with a carriage return, which facl takes for a part of a name",
                  [it.name for it in accounts.all if b"\r" in it.row()]) for kind, accounts in kinds),
         *(warned(b"rows of " + kind + b" without a name, an id or a field, which are left out",

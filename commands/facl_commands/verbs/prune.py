@@ -9,7 +9,7 @@ from ..base.folders import remove_snapshot
 from ..base.messages import Command, Failure, counted
 from ..daily.folder import DailyFolder
 from ..model import meta
-from .store import Stored, place, snapshots_in
+from .store import TO_COME, Stored, place, snapshots_in
 
 DONE, NOTHING = 0, 3
 # The rules, each with the period of a time.
@@ -33,12 +33,14 @@ def kept_by(rule: str, count: int, group: List[Stored]) -> Iterator[Tuple[Stored
 
 def reasons_of(stored: List[Stored], counts: Dict[str, int]) -> Dict[bytes, List[bytes]]:
     """Why each snapshot stays; none where it goes. Snapshots of one host and the same folders are one group; what is
-    imported or incomplete stays."""
+    imported, incomplete or of a time to come stays, and does not count."""
     found: Dict[bytes, List[bytes]] = {it.name: [] for it in stored}
     groups: Dict[Tuple[bytes, ...], List[Stored]] = {}
     for it in reversed(stored):
         if it.fault or it.about is meta.UNKNOWN or it.taken() is None:
             found[it.name].append(b"incomplete snapshot" if it.fault else b"imported")
+        elif it.is_to_come():
+            found[it.name].append(TO_COME)
         else:
             groups.setdefault((it.about.host, *it.about.folders), []).append(it)
     for group in groups.values():

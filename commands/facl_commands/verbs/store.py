@@ -10,7 +10,7 @@ import os
 import re
 import stat
 import time
-from typing import Iterator, List, NamedTuple, Optional
+from typing import Iterator, List, NamedTuple, Optional, Tuple
 
 from ..base import folders, new_file, trusted
 from ..base.messages import Failure, counted, held, reason
@@ -24,6 +24,8 @@ NAME = "%Y-%m-%dT%H%M%S"  # Of a snapshot, in the time of the system.
 ONE_DAY = re.compile(rb"[0-9]{4}-[0-9]{2}-[0-9]{2}")
 UNFINISHED = re.compile(rb".+\.[A-Za-z0-9]{6}")  # The work folder of a facl-snapshot.
 MINUTE, HOUR, DAY = 60, 3600, 86400
+YEARS = range(1970, 9999)  # Of times that are the same in every zone; others nobody took.
+TO_COME = b"of a time that is still to come, so a clock was wrong"
 MOST_NAMES = 5  # In a message.
 
 
@@ -45,7 +47,16 @@ class Stored(NamedTuple):
             found = datetime.datetime.strptime(self.about.date.decode("ascii", "replace"), DATE)
         except ValueError:
             return None
-        return found.replace(tzinfo=datetime.timezone.utc).timestamp()
+        return found.replace(tzinfo=datetime.timezone.utc).timestamp() if found.year in YEARS else None
+
+    def is_to_come(self) -> bool:
+        """Whether the clock was ahead when it was made, or was set back since."""
+        age = self.age()
+        return age is not None and age < -MINUTE
+
+    def order(self) -> Tuple[float, bytes]:
+        """By what the snapshots of a store are sorted; one of a time to come is not the newest for ever."""
+        return 0.0 if self.is_to_come() else self.taken() or 0.0, self.name
 
     def age(self) -> Optional[int]:
         taken = self.taken()
@@ -63,7 +74,7 @@ class Stored(NamedTuple):
             return [self.fault]
         unread = self.number(meta.UNREAD)
         found = ((meta.is_of_another_host(self.about), b"of another host"), (self.about is meta.UNKNOWN, b"imported"),
-                 (bool(self.parts), b"in %d parts" % len(self.parts)),
+                 (bool(self.parts), b"in %d parts" % len(self.parts)), (self.is_to_come(), TO_COME),
                  (bool(unread), counted(unread or 0, "file") + b" could not be read"))
         return [text for is_so, text in found if is_so]
 
@@ -91,8 +102,11 @@ def place() -> bytes:
         return os.path.abspath(given)
     if os.geteuid() == 0:
         return OF_ROOT
-    state = os.environb.get(b"XDG_STATE_HOME", b"")
-    return os.path.join(state if state.startswith(b"/") else os.path.expanduser(b"~/.local/state"), b"facl")
+    state, home = os.environb.get(b"XDG_STATE_HOME", b""), os.path.expanduser(b"~/.local/state")
+    found = state if state.startswith(b"/") else home
+    if not found.startswith(b"/"):
+        raise Failure(b"you have no home directory: name a store with $" + STORE)
+    return os.path.join(found, b"facl")
 
 
 def made_place() -> bytes:
@@ -168,7 +182,7 @@ def snapshots_in(store: bytes) -> List[Stored]:
     finally:
         os.close(descriptor)
     found = [read_snapshot_folder(name, os.path.join(store, name)) for name in names]
-    return sorted(filter(None, found), key=lambda it: (it.taken() or 0.0, it.name))
+    return sorted(filter(None, found), key=Stored.order)
 
 
 def whole_of_this_host(stored: List[Stored]) -> List[Stored]:
@@ -257,6 +271,8 @@ def notes(stored: Stored) -> Iterator[bytes]:
     age = stored.age()
     if age is not None and age >= DAY:
         yield b"the snapshot %s is %s old" % (stored.name, age_text(age))
+    if stored.is_to_come():
+        yield b"the snapshot %s is " % stored.name + TO_COME
     if meta.is_of_another_host(stored.about):
         yield b"the snapshot %s is of the host %s, not of this one" % (stored.name, stored.about.host)
 

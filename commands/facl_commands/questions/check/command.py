@@ -116,7 +116,7 @@ def notes_on_names(given: argparse.Namespace, source: Source, rules: Iterable[Ru
     folders = split_tree.snapshots_in(source.folder)
     links = [its for folder in folders for its in read_links(folder_of(folder).optional(b"links"))]
     for rule in () if given.quiet else rules:
-        found = [tuple(file_name(it, is_whole) for it in names) for names in names_beside(rule, links)]
+        found = [(file_name(one, is_whole), file_name(other, is_whole)) for one, other in names_beside(rule, links)]
         if found:
             yield b"line %d: the rule is not about all names of %s, first: %s, which is %s too" % (
                 rule.number, counted(len(found), "file"), *found[0])
