@@ -315,6 +315,19 @@ class ThereAndBack(Tree):
         self.assertEqual(self.modes(), before)
         self.assertEqual(self.read("before.plan/state"), b"undone\n")
 
+    @unittest.skipIf(os.geteuid() != 0, "takes root")
+    def test_root_without_a_capability(self) -> None:
+        """Linux would take set-group-ID away with a new mode (chmod(2)), and not give it back."""
+        os.chown(os.path.join(self.tree, "d"), 0, 4711)
+        os.chmod(os.path.join(self.tree, "d"), 0o2755)
+        self.planned(b"chmod 2775 " + self.word("d"))
+        command = os.path.join(COMMANDS, "facl-apply")
+        done = subprocess.run(["setpriv", "--bounding-set=-fsetid", sys.executable, "-I", command, self.path("before.plan")],
+                              capture_output=True, check=False)
+        self.assertEqual((done.returncode, self.mode("d")), (2, 0o2755), done)
+        self.assertIn(b"would lose set-group-ID, since you are not in its group: run it as root, with all capabilities", done.stderr)
+        self.expect(self.apply(), 0, b"changed 1 file\n")
+
     def test_notes_that_cannot_be_read_do_not_hinder_the_way_back(self) -> None:
         """Whom by_hand removed is read before files get their old records, and said with what cannot be read after that."""
         before = self.modes()

@@ -962,7 +962,7 @@ class DirectoryServices(UserScripts):
         lines = (b"useradd -u 20005 -g dirstaff stefan", b"useradd -u 1010 -g dirstaff nell")
         self.write_scripts(people=[it for it in map(people.change, map(bytes.split, lines)) if it is not None])
         self.expect_run("by_hand", 0)
-        self.assertEqual(self.calls(), [b"useradd -u 1010 -g 21000 -- nell"])
+        self.assertEqual(self.calls(), [b"useradd -M -u 1010 -g 21000 -- nell"])
         os.unlink(self.path("plan/by_hand_done"))
         self.write("rows.directory.passwd", STEFAN.replace(b"20005", b"20006"))
         self.expect_left("user stefan: is of a directory service, and not of /etc/passwd, so useradd is not run: change the user there")

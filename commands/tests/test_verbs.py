@@ -377,11 +377,13 @@ guest can do nothing with /srv/project/notes.txt: /srv/project gives no search p
                 with mock.patch.object(timer, "find_sendmail", side_effect=Failure(b"no mailer")):
                     self.assertRaises(Failure, timer.body, Command("facl daily"), given)
                 self.assertEqual((os.listdir(self.path("etc")), os.path.exists(self.path("called"))), ([], False))
-                said = [self.installed(given), self.installed(given)]
-        self.assertEqual(said, [b"", b"kept the earlier settings as " + settings + b".before"])
-        self.assertEqual(self.read("etc/facl-daily"), timer.HEAD + text)
-        self.assertEqual(sorted(os.listdir(self.path("etc"))), ["facl-daily", "facl-daily.before"])
-        self.assertEqual(self.read("called"), b"enable --now facl-daily.timer\n" * 2)
+                said = [self.installed(it) for it in (given, given, self.prepared("one"), self.prepared("two"), given)]
+        kept = [b"kept the earlier settings as " + settings + b".before" + it for it in (b"", b"2", b"3")]
+        self.assertEqual(said, [b"", b"", *kept])
+        self.assertEqual([self.read("etc/facl-daily" + it) for it in ("", ".before")], [timer.HEAD + text] * 2)
+        self.assertEqual([it in self.read("etc/facl-daily.before" + end) for it, end in ((b"one", "2"), (b"two", "3"))], [True, True])
+        self.assertEqual(len(os.listdir(self.path("etc"))), 4)
+        self.assertEqual(self.read("called"), b"enable --now facl-daily.timer\n" * 5)
 
     def prepared(self, glob: str, *more: str) -> argparse.Namespace:
         words = ["--install", "--mail", "root", "--exclude=" + glob, "--cross-file-systems", *(more or ["/srv"])]

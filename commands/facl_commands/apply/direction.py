@@ -179,16 +179,17 @@ class Obstacles:
         self.free: Set[Mount] = set()  # Without an obstacle for any file.
 
     def of_right(self, path: bytes, seen: Seen) -> Optional[bytes]:
-        """Of a caller who is not root."""
-        if seen.record.owner != os.geteuid():
-            return b"is not yours: run it as root"
-        if seen.record.ids() != self.way.end(path).ids():
-            return b"would get another owner or group: run it as root"
+        """Of a caller who is not root, or who lacks a capability of root."""
+        if os.geteuid() != 0:
+            if seen.record.owner != os.geteuid():
+                return b"is not yours: run it as root"
+            if seen.record.ids() != self.way.end(path).ids():
+                return b"would get another owner or group: run it as root"
         # The system takes set-group-ID away, on this way or back, by a new list or mode.
         start, end = self.way.start(path), self.way.end(path)
         if ((start.flags | end.flags) & stat.S_ISGID and (start.access, start.flags) != (end.access, end.flags)
                 and end.group not in {os.getegid(), *os.getgroups()}):
-            return b"would lose set-group-ID, since you are not in its group: run it as root"
+            return b"would lose set-group-ID, since you are not in its group: run it as root, with all capabilities"
         return None
 
     def of_file(self, file: OpenFile, path: bytes, seen: Seen) -> Optional[bytes]:
@@ -225,10 +226,11 @@ class Obstacles:
     def all(self, look: Look) -> Dict[bytes, bytes]:
         """The obstacles of all files. One itself has to be opened if its mount is not known yet or may hinder it, or if its owner
         changes."""
-        found, is_root = {} if self.way.is_undo else opens_way_to_plan(self.way), os.geteuid() == 0
+        found = {} if self.way.is_undo else opens_way_to_plan(self.way)
+        may_all = os.geteuid() == 0 and linux.has_capability(linux.CAP_FSETID)
         with Opener() as opener:
             for path, seen in look.files.items():
-                fault = found.get(path) or (None if is_root else self.of_right(path, seen))
+                fault = found.get(path) or (None if may_all else self.of_right(path, seen))
                 if not self.way.is_undo:  # Which takes back the other files.
                     fault = fault or live.fixed(seen)
                 if fault is None and (seen.beside[1] not in self.free or seen.record.ids() != self.way.end(path).ids()):

@@ -33,6 +33,7 @@ BUFFER = ctypes.create_string_buffer(256)
 STATX_CALL = getattr(ctypes.PyDLL(None, use_errno=True), "statx", None)  # It is quicker where other threads do not go on.
 NO_DESCRIPTOR = -1
 PR_SET_PDEATHSIG = 1
+CAP_FSETID = 4
 MOUNTS_FILE = "/proc/self/mountinfo"
 BOOT_FILE = "/proc/sys/kernel/random/boot_id"
 SERVER = re.compile(rb"(?:^|,)user_id=([0-9]+)")  # In the options of a mount.
@@ -229,6 +230,12 @@ def end_with(parent: int) -> None:
         LIBRARY.prctl(PR_SET_PDEATHSIG, ctypes.c_ulong(signal.SIGKILL))
     if os.getppid() != parent:
         os._exit(1)
+
+
+def has_capability(number: int) -> bool:
+    """Whether this process has a capability (capabilities(7)): root of a container may lack some."""
+    with open("/proc/self/status", "rb") as file:
+        return any(int(line.split()[1], 16) >> number & 1 for line in file if line.startswith(b"CapEff:"))
 
 
 def boot() -> str:

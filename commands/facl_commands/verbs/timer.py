@@ -2,9 +2,12 @@
 from __future__ import annotations
 
 import argparse
+import itertools
 import os
 import shutil
+import stat
 import subprocess
+from typing import Iterator, Optional
 
 from ..base import new_file, trusted
 from ..base.messages import Command, Failure
@@ -43,18 +46,34 @@ def settings_of(given: argparse.Namespace) -> bytes:
     return HEAD + b'%s=%s\nFACL_DAILY="%s"\n' % (STORE, store, b" ".join(words))
 
 
-def write_settings(text: bytes) -> bool:
-    """Puts the settings in place; whether others were there, which are kept."""
+def kept_names(name: bytes) -> Iterator[bytes]:
+    """Names for settings that were there, of which the first is taken that nothing has."""
+    yield name + KEPT
+    yield from (name + KEPT + b"%d" % number for number in itertools.count(2))
+
+
+def write_settings(text: bytes) -> Optional[bytes]:
+    """Puts the settings in place; returns the name under which others are kept that were there."""
     above, name = os.path.split(SETTINGS)
-    folder = trusted.open_folder(above)
+    folder, kept = trusted.open_folder(above), None
     made = b"." + name + b"." + os.urandom(8).hex().encode()
     new_file.write(made, folder, text)
-    was_there = new_file.is_there(name, folder)
-    if was_there:
-        os.replace(name, name + KEPT, src_dir_fd=folder, dst_dir_fd=folder)
+    if new_file.is_there(name, folder) and not has_text(name, folder, text):
+        kept = next(it for it in kept_names(name) if not new_file.is_there(it, folder))
+        os.rename(name, kept, src_dir_fd=folder, dst_dir_fd=folder)
     os.replace(made, name, src_dir_fd=folder, dst_dir_fd=folder)
     os.close(folder)
-    return was_there
+    return kept and os.path.join(above, kept)
+
+
+def has_text(name: bytes, folder: int, text: bytes) -> bool:
+    """Whether a name of an open folder is a plain file with this text alone."""
+    try:
+        descriptor = os.open(name, os.O_RDONLY | os.O_NOFOLLOW | os.O_NONBLOCK | os.O_CLOEXEC, dir_fd=folder)
+    except OSError:
+        return False
+    with open(descriptor, "rb") as file:
+        return stat.S_ISREG(os.fstat(descriptor).st_mode) and file.read(len(text) + 1) == text
 
 
 def body(command: Command, given: argparse.Namespace) -> int:
@@ -63,8 +82,9 @@ def body(command: Command, given: argparse.Namespace) -> int:
         raise Failure(b"there is no facl-daily.timer, which the Debian package has; let cron run facl daily instead")
     if given.mail:
         find_sendmail()  # Else the first night would fail, and nobody would get a mail of it.
-    if write_settings(settings_of(given)):
-        command.say(b"kept the earlier settings as " + SETTINGS + KEPT)
+    kept = write_settings(settings_of(given))
+    if kept is not None:
+        command.say(b"kept the earlier settings as " + kept)
     done = subprocess.run([systemctl, "enable", "--now", TIMER], stdin=subprocess.DEVNULL, stdout=subprocess.DEVNULL,
                           env=environment_of_called(), check=False)
     if done.returncode != 0:
