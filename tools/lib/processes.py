@@ -6,7 +6,7 @@ import os
 import resource
 import signal
 import time
-from typing import Iterator, List, NamedTuple
+from typing import Iterator, List, NamedTuple, Optional
 
 
 class Process(NamedTuple):
@@ -20,21 +20,25 @@ class Process(NamedTuple):
     is_stopped: bool
 
 
+def process(number: str) -> Optional[Process]:
+    """The process of a number, if it runs."""
+    try:
+        with open(f"/proc/{number}/stat", encoding="utf-8", errors="replace") as stat:
+            head, _, rest = stat.read().rpartition(")")
+    except (FileNotFoundError, ProcessLookupError):
+        return None
+    fields = rest.split()
+    state, parent, session, pages = fields[0], int(fields[1]), int(fields[3]), int(fields[21])
+    held = pages * resource.getpagesize()
+    return None if state == "Z" else Process(int(number), head.partition("(")[2], parent, session, held, state == "T")
+
+
 def processes() -> Iterator[Process]:
-    for number in filter(str.isdigit, os.listdir("/proc")):
-        try:
-            with open(f"/proc/{number}/stat", encoding="utf-8", errors="replace") as stat:
-                head, _, rest = stat.read().rpartition(")")
-        except (FileNotFoundError, ProcessLookupError):
-            continue
-        fields = rest.split()
-        state, parent, session, pages = fields[0], int(fields[1]), int(fields[3]), int(fields[21])
-        if state != "Z":
-            yield Process(int(number), head.partition("(")[2], parent, session, pages * resource.getpagesize(), state == "T")
+    return filter(None, map(process, filter(str.isdigit, os.listdir("/proc"))))
 
 
 def is_running(number: int) -> bool:
-    return any(process.number == number for process in processes())
+    return process(str(number)) is not None
 
 
 def programs_below(number: int, name: str) -> List[Process]:
@@ -42,20 +46,20 @@ def programs_below(number: int, name: str) -> List[Process]:
     found = list(processes())
     below, more = {number}, True
     while more:
-        new = {process.number for process in found if process.parent in below} - below
+        new = {it.number for it in found if it.parent in below} - below
         below, more = below | new, bool(new)
-    return [process for process in found if process.name == name and process.number in below]
+    return [it for it in found if it.name == name and it.number in below]
 
 
 def members(session: int) -> Iterator[int]:
     """The processes of this session that are left."""
-    return (process.number for process in processes() if process.session == session)
+    return (it.number for it in processes() if it.session == session)
 
 
 def end_session(session: int) -> None:
     """Ends all processes of this session, and waits until they are gone."""
     while left := list(members(session)):
-        for process in left:
+        for number in left:
             with contextlib.suppress(ProcessLookupError):
-                os.kill(process, signal.SIGKILL)
+                os.kill(number, signal.SIGKILL)
         time.sleep(0.05)
