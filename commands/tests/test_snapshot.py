@@ -634,6 +634,7 @@ def find(kind, make, place, key):
         names = [b"member%05d" % number for number in range(12_000)]
         accounts = Accounts(Service(), asking.group_by, [Account(b"all:x:70500:", b"all", (70500,), (*names,)),
                                                          Account(b"70500:x:7:", b"70500", (7,), (b"ann",))])
+        accounts.give_names()
         rows = accounts.text().splitlines()
         self.assertLess(max(map(len, rows)), 65_536)
         self.assertEqual([row.split(b":")[:3] for row in rows], [it.split() for it in (

@@ -2,7 +2,7 @@
 from __future__ import annotations
 
 import itertools
-from typing import Dict, Iterable, Iterator, List, NamedTuple, Tuple
+from typing import Dict, Iterator, List, NamedTuple, Tuple
 
 LONGEST_ROW = 65_000  # Bytes, with room for another name: the program takes 65,536.
 COLONS = {2: 6, 1: 3}  # In a row of passwd, which has two ids, and of group.
@@ -56,10 +56,12 @@ class Account(NamedTuple):
         yield self._replace(members=(*piece,))
 
 
-def with_own_names(accounts: Iterable[Account]) -> List[Account]:
+def with_own_names(accounts: List[Account]) -> List[Account]:
     """One row for each name, since the program counts the first row of a name alone, and the system lets in the members of all
     (initgroups(3)): a further row of the same id gives its members to the first one, and one of another id has that for its name.
     So have those after the first one of a group whose row would be too long."""
+    if len({it.name for it in accounts}) == len(accounts) and all(len(it.row()) <= LONGEST_ROW for it in accounts):
+        return accounts
     found: Dict[bytes, Account] = {}
     for it in accounts:
         name = next(name for name in itertools.chain([it.name], it.numbers()) if found.get(name, it).ids[0] == it.ids[0])

@@ -161,7 +161,7 @@ def rows_of_system(database: str, lines: Set[bytes]) -> bytes:
     lacking = sorted(names_in(database, lines) - known)
     for start in range(0, len(lacking), KEYS_AT_ONCE):
         text += getent([word, b"--", *lacking[start : start + KEYS_AT_ONCE]])
-    return text if database == "passwd" else b"".join(it.row() + b"\n" for it in with_own_names(groups_in(text)))
+    return text if database == "passwd" else b"".join(it.row() + b"\n" for it in with_own_names([*groups_in(text)]))
 
 
 def groups_in(text: bytes) -> Iterator[Account]:

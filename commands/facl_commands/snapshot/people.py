@@ -20,6 +20,7 @@ class Accounts:
         self.service, self.look_up, self.found = service, look_up, 0
         self.odd = {it.row() for it in listed if not it.is_taken()}
         self.all = [it for it in listed if it.is_taken()]
+        self.rows: List[Account] = []  # One for each name, as the program needs them, once all are known.
         self.asked: Set[Key] = set()
 
     def names(self) -> Set[bytes]:
@@ -29,17 +30,16 @@ class Accounts:
         """Those of some ids that nobody has."""
         return {*(ids - {it.ids[0] for it in self.all})}
 
-    def rows(self) -> List[Account]:
-        """One for each name, as the program needs them."""
-        return with_own_names(self.all)
+    def give_names(self) -> None:
+        self.rows = with_own_names(self.all)
 
     def renamed(self) -> List[bytes]:
         """The names and ids of those who have another name in their rows."""
-        known = {(it.name, it.ids[0]) for it in self.rows()}
+        known = {(it.name, it.ids[0]) for it in self.rows}
         return sorted(b"%s %d" % it for it in {(it.name, it.ids[0]) for it in self.all} - known)
 
     def text(self) -> bytes:
-        return b"".join(it.row() + b"\n" for it in self.rows())
+        return b"".join(it.row() + b"\n" for it in self.rows)
 
     def ask(self, keys: AbstractSet[Key]) -> bool:
         """Looks up those that were not looked up yet, and adds them at the end; whether there is one that was not known."""
@@ -93,6 +93,8 @@ class PeopleOfSystem:
             for ids in (sums.owning_groups, sums.groups | named):
                 is_new |= self.groups.ask(self.groups.lacking(ids))
         self.add_members()
+        for accounts in (self.users, self.groups):
+            accounts.give_names()
 
     def members(self) -> Set[bytes]:
         return {name for it in self.groups.all for name in it.members if name}
@@ -110,15 +112,15 @@ class PeopleOfSystem:
         """The lines of meta."""
         kinds = ((b"users", self.users), (b"groups", self.groups))
         return b"".join(
-            [b"%s %d\n%s-asked-for %d\n" % (kind, len(accounts.rows()), kind, accounts.found) for kind, accounts in kinds]
+            [b"%s %d\n%s-asked-for %d\n" % (kind, len(accounts.rows), kind, accounts.found) for kind, accounts in kinds]
             + [b"%s-left-out %d\n" % (kind, len(accounts.odd)) for kind, accounts in kinds])
 
     def said(self) -> bytes:
         """In the last line."""
-        text = b"%d users, " % len(self.users.rows())
+        text = b"%d users, " % len(self.users.rows)
         if self.users.found:
             text += b"of whom %d are not in the list of getent: asked for by id or name, " % self.users.found
-        return text + b"%d groups" % len(self.groups.rows())
+        return text + b"%d groups" % len(self.groups.rows)
 
 
 def fail_of_line(name: bytes, lines: Iterable[bytes], is_wrong: Callable[[bytes], bool], text: bytes) -> None:
