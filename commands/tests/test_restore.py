@@ -160,21 +160,27 @@ class Lines(JobCase):
                       self.verb("restore", "/srv", "--full", "-o", "full").messages)
 
     def test_another_file(self) -> None:
-        """Set-user-ID is not given to what somebody else put there."""
+        """Set-user-ID is not given to what somebody else put there, also if that has set-user-ID of its own."""
         files = {b"/srv/t": record(0, 0, "rwxr-xr-x", flags="s--"), b"/srv/u": record(0, 0, "rwxr-xr-x", flags="s--"),
-                 b"/srv/d/": record(0, 2001, "rwxrwx---", flags="-s-")}
-        bare = {name: record(1001, 1001, "rwxr-xr-x") for name in files}
-        numbers = {b"/": (1, 1, 1), b"/srv": (1, 2, 1), b"/srv/d": (1, 3, 1), b"/srv/t": (1, 4, 1), b"/srv/u": (1, 5, 1)}
-        other = {**numbers, b"/srv/d": (1, 7, 2), b"/srv/t": (1, 4, 2)}
+                 b"/srv/d/": record(0, 2001, "rwxrwx---", flags="-s-"), b"/srv/v": record(0, 0, "rwxr-xr-x", flags="s--"),
+                 b"/srv/w": record(0, 2001, "rwxr-xr-x", flags="ss-"), b"/srv/x": record(0, 2002, "rwxr-xr-x", flags="-s-")}
+        present = {name: record(1001, 1001, "rwxr-xr-x") for name in files}
+        present.update({b"/srv/%c" % it: record(1001, 2001, "rwxrwxr-x", flags="ss-") for it in b"vwx"})
+        numbers = {b"/": (1, 1, 1), b"/srv": (1, 2, 1), b"/srv/d": (1, 3, 1), b"/srv/t": (1, 4, 1), b"/srv/u": (1, 5, 1),
+                   b"/srv/v": (1, 8, 1), b"/srv/w": (1, 9, 1), b"/srv/x": (1, 10, 1)}
+        other = {**numbers, b"/srv/d": (1, 7, 2), b"/srv/t": (1, 4, 2), **{b"/srv/%c" % it: (1, it, 2) for it in b"vwx"}}
         self.put("old", {**TOP, **files}, seconds=DAY, inodes=inodes_of(numbers))
-        self.put("now", {**TOP, **bare}, inodes=inodes_of(other))
-        done = self.verb("restore", "/srv", "-q")
-        self.expect_done(done._replace(messages=b"".join(done.messages.splitlines(True)[:2])), 0, [], [
-            b"facl restore: 2 paths have another file since then, which gets the older ACL: /srv/d, /srv/t",
-            b"facl restore: 1 of these keeps set-user-ID and set-group-ID as they are: /srv/t"])
+        self.put("now", {**TOP, **present}, inodes=inodes_of(other))
+        done = self.verb("restore", "/srv", "-q", "--full")
+        self.expect_done(done._replace(messages=b"".join(done.messages.splitlines(True)[:11])), 0, [], [
+            b"facl restore: 5 paths have another file since then, which gets the older ACL:",
+            *(b"    /srv/%c" % it for it in b"dtvwx"),
+            b"facl restore: 4 of these get no set-user-ID or set-group-ID:", *(b"    /srv/%c" % it for it in b"tvwx")])
         planned = self.planned("restore-srv.plan")
         self.assertEqual({path: it.body for path, it in planned.items()}, {
-            b"srv/d": files[b"/srv/d/"], b"srv/t": record(0, 0, "rwxr-xr-x"), b"srv/u": files[b"/srv/u"]})
+            b"srv/d": files[b"/srv/d/"], b"srv/t": record(0, 0, "rwxr-xr-x"), b"srv/u": files[b"/srv/u"],
+            b"srv/v": record(0, 0, "rwxr-xr-x"), b"srv/w": record(0, 2001, "rwxr-xr-x", flags="-s-"),
+            b"srv/x": record(0, 2002, "rwxr-xr-x")})
 
     def test_who_is_not_there_any_more(self) -> None:
         """No number is given to somebody else, and no set-user-ID to another owner."""

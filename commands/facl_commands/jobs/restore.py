@@ -2,8 +2,8 @@
 newer one.
 
 A number is given back only where it means whom it meant: an id has the same name in both snapshots, or none in either. What names
-another id stays as it is. So do set-user-ID and set-group-ID of a file that keeps its owner or group so, or that is another one by
-now: it would run what somebody else put there.
+another id stays as it is. So does set-user-ID of a file that keeps its owner so, and set-group-ID with the group. A file that is
+another one by now gets neither, and loses what it has with its owner or group: it would run what somebody else put there.
 """
 from __future__ import annotations
 
@@ -14,7 +14,7 @@ from ..base.folders import folder_of
 from ..base.messages import Failure, counted
 from ..base.names import file_name, sorting_key
 from ..model import choice, meta
-from ..model.entries import GROUP, USER, Key, NamesOfIds, head_lines, lists_of, read_record
+from ..model.entries import GROUP, NOTHING, USER, Key, NamesOfIds, head_lines, lists_of, read_record
 from ..model.records import File, Files, compare, list_all, write_records
 from ..model.snapshot import NEEDED, NO_BOOT, read_links, read_some
 from ..program.protocol import LIST, RESTORE
@@ -46,7 +46,7 @@ class GivenBack(NamedTuple):
 
     body: bytes
     lost: FrozenSet[Tuple[Key, bool]]  # The ids; whether one of them is in an entry, or else as the owner or the owning group.
-    keeps_flags: bool  # Whether set-user-ID or set-group-ID stays as it is, since the file is another one.
+    lacks_flags: bool  # Whether set-user-ID or set-group-ID is not given back, since the file is another one.
 
 
 def moment_of(program: str, folder: bytes, word: bytes) -> Moment:
@@ -70,14 +70,16 @@ def given_back(old: bytes, now: bytes, is_same: Callable[[Key], bool], is_other_
         lost.add(((found[2], found[3]), True))
         return its
 
-    ids, flags = [before.owner, before.group], bytearray(before.flags)
-    is_kept = is_other_file and b"s" in before.flags and before.flags[:2] != present.flags[:2]
+    ids, flags, lacks_flags = [before.owner, before.group], bytearray(before.flags), False
     for place, (tag, its, other) in enumerate(((USER, before.owner, present.owner), (GROUP, before.group, present.group))):
         is_lost = its != other and not is_same((tag, its))
         lost.update([((tag, its), False)] * is_lost)
         ids[place] = other if is_lost else its
-        flags[place] = present.flags[place] if is_lost or is_kept else flags[place]
-    return GivenBack(head_lines(ids[0], ids[1], bytes(flags)) + NAMED_ENTRY.sub(entry, lists_of(old)), frozenset(lost), is_kept)
+        if is_lost:
+            flags[place] = present.flags[place]
+        elif is_other_file and flags[place] != NOTHING[0] and not (its == other and flags[place] == present.flags[place]):
+            flags[place], lacks_flags = NOTHING[0], True
+    return GivenBack(head_lines(ids[0], ids[1], bytes(flags)) + NAMED_ENTRY.sub(entry, lists_of(old)), frozenset(lost), lacks_flags)
 
 
 # --- which files
@@ -126,8 +128,8 @@ def notes_of(old: Moment, now: Moment, wanted: Dict[bytes, GivenBack], others: S
     yield from note("file is", "files are", b" gone since then", set(changes.removed) - {*both})
     yield from note("path is", "paths are", b" of a directory in one snapshot and of a file in the other, left alone", both)
     yield from note("path has", "paths have", b" another file since then, which gets the older ACL", others & set(wanted))
-    yield from note("of these keeps", "of these keep", b" set-user-ID and set-group-ID as they are",
-                    [path for path, it in wanted.items() if it.keeps_flags])
+    yield from note("of these gets", "of these get", b" no set-user-ID or set-group-ID",
+                    [path for path, it in wanted.items() if it.lacks_flags])
     yield from note("name is", "names are", b" of files that had several ACLs and are one file now, left alone", is_alike)
     yield from notes_of_lost(old, now, wanted)
 
