@@ -33,6 +33,7 @@ TREE = {
 
 
 FORM = b"a rule is never|only|always WHO.. read|write|enter [below] PATH"
+TWO_MEANINGS = b"an id, and also the name of another id: write the name of the id, or the name of digits in quotes"
 NO_USER = b"word 2: no such user in the snapshot: write a name or an id of its passwd"
 NO_KIND, NO_RIGHT = b"word 1: write never, only or always; " + FORM, b"no right: write read, write or enter before the PATH; " + FORM
 ONLY_ELSE = (b"only everybody else: there is nobody beside whom a rule could keep out; write never people, or never with who shall not")
@@ -296,9 +297,15 @@ class Digits(Checks):
 
     def test_users(self) -> None:
         self.assertEqual(self.broken(b"never '2024' read srv/hr/cases/one"), [b"2024 1 /srv/hr/cases/one"])
-        self.assertEqual(self.broken(b"never 2024 mara read srv/hr/cases/one"), [])
+        self.assertEqual(self.broken(b"never mara 3000 read srv/hr/cases/one"), [b"2024 1 /srv/hr/cases/one"])
         self.assertEqual(self.broken(b"only anna bert mara read srv/hr/cases/one"), [b"2024 1 /srv/hr/cases/one"])
         self.assertIn(b"by  /: other::r-x", self.check(b"never '2024' read srv/hr/cases/one\n").out)
+
+    def test_a_word_that_is_an_id_and_a_name(self) -> None:
+        # A rule about mara, whose id it is, held while the user of that name read the file.
+        for who in (b"2024", b"@2003"):
+            self.expect(self.check(b"never %s read srv/hr/cases/one\n" % who), 2, b"",
+                        b"facl-check: rules, line 1: word 2: " + TWO_MEANINGS + b"\n")
 
     def test_a_user_whom_no_question_names(self) -> None:
         self.take(TREE, passwd=PASSWD + b"2024:x:1009:1009::/:\n")
@@ -311,7 +318,7 @@ class Digits(Checks):
             self.assertEqual(self.broken(b"never @%s read srv/hr/cases/one" % name), [b"%s 1 /srv/hr/cases/one" % it for it in (b"anna", b"bert", b"carl")])
 
     def test_groups(self) -> None:
-        self.assertEqual(self.broken(b"never @2003 read srv/hr/cases/two"), [b"anna 1 /srv/hr/cases/two"])
+        self.assertEqual(self.broken(b"never @staff read srv/hr/cases/two"), [b"anna 1 /srv/hr/cases/two"])
         self.assertEqual(self.broken(b"never @'2003' read srv/hr/cases/two"), [])
         self.expect(self.check(b"never @none read srv/hr/\n", "--quiet"), 0, b"",
                     b"facl-check: warning: rules, line 1: word 2: a group that has no members in the snapshot\n")

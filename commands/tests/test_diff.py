@@ -408,6 +408,17 @@ class Snapshots(DiffCase):
         self.expect(self.diff("--tsv", "--full"), 0, b"BEFORE\tAFTER\tWHO\tFILES\tFIRST\tWHY\n")
         self.expect(self.diff("--tsv"), 0, EVENT_TITLES.encode() + b"\n")
 
+    def test_marks(self) -> None:
+        # All who are granted w can write since the file system is not read-only, and nothing said so.
+        said = b"facl-diff: warning: not in the rows of who gained and lost what: 1 %s, first: /srv/share\n"
+        for before, after, text in ((b"ro /srv/share/\n", b"", b"read-only file system no longer"),
+                                    (b"", b"immutable /srv/share\n", b"immutable file new")):
+            self.write("before/marks", before)
+            self.write("after/marks", after)
+            done = self.diff()
+            self.assertEqual((done.status, done.out), (1, NOTHING), done.messages)
+            self.assertIn(said % text, done.messages)
+
     def test_a_dump_with_names(self) -> None:
         text = re.sub(rb"^# owner: 1001$", b"# owner: ines", self.read("after/dump"), flags=re.MULTILINE)
         self.write("after/dump", text)

@@ -326,6 +326,19 @@ guest can do nothing with /srv/project/notes.txt: /srv/project gives no search p
                 text = b"nothing: no such snapshot; facl snapshots lists those of %s\n" % os.fsencode(self.store)
                 self.assertTrue(done.messages.endswith(text), done.messages)
 
+    def test_a_word_that_is_an_id_and_a_name(self) -> None:
+        # `facl who` printed the name, and `facl user` with it answered about the one whose id it is.
+        passwd = self.read("store/new/passwd")
+        row = next(it for it in passwd.splitlines() if it.startswith(b"mara:")).split(b":")
+        self.write("store/new/passwd", passwd + row[2] + b":x:3000:100::/:\n5000:x:3001:100::/:\n")
+        for word, text in ((row[2], b"the id of mara, and the name of the id 3000: write mara or 3000"),
+                           (b"5000", b"an id that nobody has, and the name of the id 3001: write 3001")):
+            for words in (["user"], ["files", "--owner"], ["joiner", "--like", "guest"]):
+                done = self.verb(*words, word.decode())
+                self.assertEqual((done.status, done.out), (2, b""), words)
+                self.assertTrue(done.messages.endswith(b": " + word + b": " + text + b"\n"), done.messages)
+        self.assertEqual(self.verb("user", "3000").status, 0)
+
     def test_parts(self) -> None:
         """Of a snapshot in parts some verbs take all, and the others say which one they take."""
         for name in ("a", "b", "c"):

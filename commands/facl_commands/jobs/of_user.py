@@ -12,7 +12,7 @@ from ..model.entries import PLAIN_NAME, USER, Key, ReadRecord, read_record
 from ..model.everybody import SHOWN, World
 from ..model.file_columns import FileColumns, columns_of
 from ..model.marks import Marks, about
-from ..model.people import People, ids_in, needed_word, no_user, plain_id, superusers_among, user_by
+from ..model.people import People, check_word, ids_in, needed_word, no_user, plain_id, superusers_among, user_by
 from ..model.records import path_of
 from ..model.rights import ask_gains
 from ..model.sources import find_tops, operands_of
@@ -125,6 +125,7 @@ def user_of(world: World, word: bytes, needs_row: bool = True, may_be_root: bool
     """The user whom a word means, who has a row, unless an id will do."""
     if word == SHOWN and user_by(world.users, word) is None:
         raise Failure(SHOWN + b": is no single user")
+    check_word(world.users, word)
     found = user_by(world.users, word)
     if found is None and (needs_row or not word.isdigit()):
         raise no_user(world.users, word)

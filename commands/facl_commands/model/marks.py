@@ -9,7 +9,7 @@ from typing import Callable, Dict, Iterable, Iterator, List, NamedTuple, Optiona
 from ..base import beside
 from ..base.folders import folder_of
 from ..base.messages import counted
-from ..base.names import at_or_below, directories_above, highest, parent_of, read_path
+from ..base.names import at_or_below, directories_above, highest, live_name, parent_of, read_path
 from ..program.protocol import LIST_ALL, LIST_NUMBERS
 from ..program.session import Session
 from . import meta, sources, split_tree
@@ -116,6 +116,16 @@ def alone(marks: Marks) -> Iterator[bytes]:
     parts = [counted(kinds[kind], noun) for kind, noun in COUNTED.items() if kinds[kind]]
     if parts:
         yield b", ".join(parts) + b": judged by ACLs alone, which grant there what nobody can do"
+
+
+def differing(old: Marks, new: Marks) -> Iterator[bytes]:
+    """What Linux looks at beside the lists, which is otherwise in the second snapshot, each kind with the first files."""
+    both = {*old.own, *old.mounts, *new.own, *new.mounts}
+    for kind, noun in COUNTED.items():
+        for one, other, text in ((old, new, b"new"), (new, old, b"no longer")):
+            found = sorted(it for it in both if kind in other.of(it) and kind not in one.of(it))
+            if found:
+                yield counted(len(found), noun) + b" " + text + b", first: " + live_name(found[0])
 
 
 def not_judged(folder: bytes) -> Iterator[bytes]:

@@ -87,6 +87,25 @@ def user_by(users: Iterable[User], word: bytes) -> Optional[User]:
                  if is_named(user.name, user.uid, name, is_name=not word.isdigit())), None)
 
 
+def two_meanings(rows: Iterable[Row], word: bytes) -> bytes:
+    """Why a word can be misread: digits alone are an id, and a user or group of another id has them for a name; empty where
+    none has."""
+    known = list(rows)
+    number = next((it[1] for it in known if it[0] == word and it[1] != number_of(word)), None) if word.isdigit() else None
+    if number is None:
+        return b""
+    holder = next((write_user(it[0]) for it in known if it[1] == number_of(word)), None)
+    its = b"an id that nobody has" if holder is None else b"the id of " + holder
+    return its + b", and the name of the id %d: write %s%d" % (number, b"" if holder is None else holder + b" or ", number)
+
+
+def check_word(users: Iterable[User], word: bytes) -> None:
+    """Fails where a word of a person means one user, and may be meant as another one."""
+    text = two_meanings(users, word)
+    if text:
+        raise Failure(word + b": " + text)
+
+
 def no_user(users: Iterable[User], word: bytes) -> Failure:
     """Says that a word means no user, and who may be meant."""
     if word.isdigit():

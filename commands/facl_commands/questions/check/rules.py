@@ -7,14 +7,14 @@ from __future__ import annotations
 import itertools
 import os
 import re
-from typing import Callable, List, NamedTuple, Optional, Set, Tuple
+from typing import Callable, Iterable, List, NamedTuple, Optional, Set, Tuple
 
 from ...base.messages import Failure
 from ...base.names import file_name, path_word, plain_word, read_name, read_path, write_name
 from ...base.trusted import read_given
 from ...model.choice import is_recorded
 from ...model.everybody import SHOWN, World
-from ...model.people import Group, People, ids_in, is_named, superusers_among, users_by_group
+from ...model.people import Group, People, Row, ids_in, is_named, superusers_among, two_meanings, users_by_group
 from ...model.records import path_of
 from ...program.scripts import WORD, lines_with_numbers, read_text, words_of
 
@@ -38,6 +38,7 @@ ONLY_ELSE = b"only everybody else: there is nobody beside whom a rule could keep
 IS_ROOT = (b"a user of the uid 0, to whom the kernel grants nearly everything: leave it out, or give --with-root to judge it "
            b"as any other user")
 NO_NAME = b"write the name of a group after group"
+TWO_MEANINGS = b"an id, and also the name of another id: write the name of the id, or the name of digits in quotes"
 IS_GROUP = b"no such user in the snapshot, but a group: write group before it"
 NO_MEMBERS = b"a group that has no members in the snapshot"
 INPUT = "-"  # The name of standard input.
@@ -114,6 +115,7 @@ class RuleReader:
         if not raw.startswith(IN_GROUP):
             return {self.user(place, word, is_quoted)}, False
         name = read_name(word[1:])
+        check_meaning(place, self.people.groups, name, is_quoted)
         group = next((it for it in self.people.groups if is_named(it.name, it.gid, name, is_quoted)), None)
         if group is None:
             raise BadRule(of_word(place, NO_GROUP))
@@ -128,6 +130,7 @@ class RuleReader:
 
     def user(self, place: int, word: bytes, is_quoted: bool) -> bytes:
         name = read_name(word)
+        check_meaning(place, self.people.users, name, is_quoted)
         found = next((it for it in self.people.users if is_named(it.name, it.uid, name, is_quoted)), None)
         if found is None:
             is_group = any(it.name == name for it in self.people.groups)
@@ -187,6 +190,12 @@ class RuleReader:
         if not found:
             raise Failure(shown + b": has no rules; facl rules FOLDER prints those that hold now")
         return found
+
+
+def check_meaning(place: int, rows: Iterable[Row], name: bytes, is_quoted: bool) -> None:
+    """Refuses a word of digits that is an id and, of another row, the name; in quotes it can only be the name."""
+    if not is_quoted and two_meanings(rows, name):
+        raise BadRule(of_word(place, TWO_MEANINGS))
 
 
 def of_word(place: int, text: bytes) -> bytes:

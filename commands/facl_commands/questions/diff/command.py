@@ -12,7 +12,7 @@ from ...base.new_file import NewFile
 from ...base.programs import add_program, find_program
 from ...model import choice, overview, sources
 from ...model.everybody import Everybody
-from ...model.marks import alone, marks_of
+from ...model.marks import alone, differing, marks_of
 from ...model.people import rows_of as rows_of_text
 from ...model.records import blocks_in, name_of, path_of, records_in
 from ...model.rights import Gain, ask_gains
@@ -51,8 +51,8 @@ out, and root. A folder of the parts that facl-snapshot --split makes is compare
 no parts.
 """
 STATUS = """\
-The exit status is 0 if nobody of those who are looked at gained or lost anything, 1 if somebody did, and 2 if
-the words or the snapshots cannot be used.
+The exit status is 0 if nobody of those who are looked at gained or lost anything, 1 if somebody did or another file is
+immutable, append-only or mounted read-only, and 2 if the words or the snapshots cannot be used.
 """
 
 
@@ -252,7 +252,11 @@ def compare(command: Command, given: argparse.Namespace) -> Tuple[Compared, Opti
     check_hosts(old, new, given)
     for text in report.warnings(old, new):
         command.say(text)
-    beside = [list(alone(marks_of(state.folder))) for state in (old, new)]
+    marks = [marks_of(state.folder) for state in (old, new)]
+    beside = [list(alone(it)) for it in marks]
+    others = [*differing(*marks)]
+    for text in others:
+        command.say(b"warning: not in the rows of who gained and lost what: " + text)
     # What an import cannot tell is about the files of both.
     for state in [it for it in (old, new) if not it.is_import() or it is new and (old.is_import() or given.acl5)]:
         overview.say_notices(command, sources.Source(state.folder, state.folder, False), given.acl5 and state is new,
@@ -261,14 +265,14 @@ def compare(command: Command, given: argparse.Namespace) -> Tuple[Compared, Opti
     if old.is_split() or new.is_split():
         parts = OfParts(program, (old, new), everybody, given)
         try:
-            return parts.compared(parts.answer()), None
+            return parts.compared(parts.answer())._replace(has_other_marks=bool(others)), None
         finally:
             parts.close()
     states = old.with_everybody(everybody), new.with_everybody(everybody)
     with session_of(program, states[0], group_text(*states)) as before, session_of(program, states[1]) as after:
         comparison = OfSessions(program, (old, new), everybody, (before, after), given)
         answered = comparison.answer()
-        compared = comparison.compared(answered)
+        compared = comparison.compared(answered)._replace(has_other_marks=bool(others))
         return compared, comparison.page(answered, compared)
 
 
@@ -299,4 +303,4 @@ def body(command: Command, words: List[str]) -> int:
         target.write(page)
         command.goes_on = True  # It is there, whatever can be said.
         command.say(b"wrote " + target.name)
-    return DIFFERS if compared.rows else SAME
+    return DIFFERS if compared.rows or compared.has_other_marks else SAME

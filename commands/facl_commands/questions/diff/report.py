@@ -44,6 +44,7 @@ class Compared(NamedTuple):
     files: FileCounts
     people: PeopleCounts
     moved: List[Moved]
+    has_other_marks: bool = False  # Whether Linux looks at something else beside the lists.
 
     def name_of(self, path: bytes) -> bytes:
         """The name of a file on the live system, where the snapshots start at the root; else as the program has it."""

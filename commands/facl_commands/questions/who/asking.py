@@ -17,7 +17,7 @@ from ...model.entries import OTHER_KEY, OWNER_KEY, OWNING_GROUP_KEY, Entry, entr
 from ...model.everybody import SHOWN, World, beside
 from ...model.label_answers import ask_records
 from ...model.marks import NO_MARKS, Unwritable, find_unwritable, marks_of, without_write
-from ...model.people import needed_word, no_user, user_by, user_word
+from ...model.people import check_word, needed_word, no_user, user_by, user_word
 from ...model.snapshot import read_links
 from ...program.protocol import EFFECTIVE, ENTRIES_OF, LIST_NAMES
 from ...program.tools import REACH
@@ -135,6 +135,7 @@ class Asker:
     def user_of(self, word: bytes, has_row: bool = False) -> NamedUser:
         """The user whom the program takes a word for: digits alone are an id, which is that of the first user who has it.
         Where a row is needed, the program can be asked about the user."""
+        check_word(self.users, word)
         user = user_by(self.users, word)
         if user is not None:
             if has_row:
