@@ -91,7 +91,6 @@ class Words(Case):
                 (["frob"], b"frob: no such verb; facl help lists them"),
                 (["-n"], b"a verb is missing; facl help lists them"),
                 (["aply", "x"], b"aply: no such verb; did you mean apply?"),
-                (["hwo"], b"hwo: no such verb; did you mean who?"),
                 (["--json", "snapshop"], b"snapshop: no such verb; did you mean snapshot or snapshots?"),
                 (["revert"], b"revert: no such verb; did you mean undo?"),
                 (["compare"], b"compare: no such verb; did you mean diff?"),

@@ -213,7 +213,7 @@ MEANT: Dict[str, str] = {
 
 def no_verb(word: str) -> Failure:
     """Says that a word is no verb, and which ones may be meant."""
-    near = difflib.get_close_matches(word, [verb.name for verb in VERBS], cutoff=0.65)
+    near = difflib.get_close_matches(word, [verb.name for verb in VERBS], cutoff=0.7)
     meant = list(dict.fromkeys([*([MEANT[word]] if word in MEANT else []), *near]))
     hint = "did you mean %s?" % " or ".join(meant) if meant else "facl help lists them"
     return Failure(os.fsencode(word) + b": no such verb; " + hint.encode())
