@@ -248,6 +248,10 @@ class Plans(Case):
     def test_nothing_to_do(self) -> None:
         folder = self.whole("before.plan")
         self.expect(self.apply("--undo", "before.plan"), 3, b"", b"facl-apply: " + folder + b": was not applied; there is nothing to undo\n")
+        self.write("before.plan/state", b"undone\n")
+        os.chmod(self.path("before.plan/state"), 0o600)
+        self.expect(self.apply("--undo", "before.plan"), 3, b"",
+                    b"facl-apply: " + folder + b": was taken back already; there is nothing to undo\n")
         self.write("before.plan/state", b"applied\n")
         os.chmod(self.path("before.plan/state"), 0o600)
         self.expect(self.apply("before.plan"), 3, b"", b"facl-apply: " + folder + b": was applied already; facl undo takes it back\n")

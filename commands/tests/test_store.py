@@ -131,6 +131,19 @@ class Chosen(VerbCase):
             store.check_paths(found, [b"/etc"])
         self.assertTrue(caught.exception.text.endswith(b"which has /srv/project; to record it: facl snapshot /etc"))
 
+    def test_a_path_from_where_the_command_runs(self) -> None:
+        """What is recommended is never what was typed: facl snapshot takes such a name, and no question does then."""
+        self.stored("new", folders=["/srv/project", self.path("tree")])
+        for word, text in ((b"tree", b"give the whole name: " + os.fsencode(self.path("tree"))),
+                           (b"./tree/a", b"give the whole name: " + os.fsencode(self.path("tree/a"))),
+                           (b"other", b"to record it: facl snapshot " + os.fsencode(self.path("other")))):
+            with mock.patch.object(os, "getcwdb", return_value=os.fsencode(self.folder)):
+                with self.assertRaises(Failure) as caught:
+                    store.check_paths(store.chosen(None), [word])
+            self.assertTrue(caught.exception.text.endswith(b"; " + text), caught.exception.text)
+        with mock.patch.object(os, "getcwdb", side_effect=FileNotFoundError):
+            self.assertEqual(store.whole_name(b"tree"), b"tree")
+
     def test_places(self) -> None:
         with mock.patch.dict(os.environ, {"FACL_STORE": "", "XDG_STATE_HOME": "/x", "HOME": "/h"}):
             self.assertEqual(store.place(), b"/var/lib/facl" if os.geteuid() == 0 else b"/x/facl")
@@ -158,7 +171,7 @@ class Verbs(VerbCase):
         self.assertTrue(rows[1].startswith("\t".join([name, HOST, self.path("tree")])))
 
     def test_none_is_listed(self) -> None:
-        self.expect(self.verb("snapshots"), 1, os.fsencode(self.store) + b": has no snapshot\n")
+        self.expect(self.verb("snapshots"), 1, os.fsencode(self.store) + b": has no snapshot; make one: facl snapshot FOLDER\n")
 
     def test_in_another_folder(self) -> None:
         done = self.verb("snapshot", "-q", "-o", "mine", "before", "--exclude", "*.x")

@@ -14,7 +14,9 @@ from verb_case import DAY, VerbCase, restoring, with_entry_of_nobody
 from facl_commands.base import beside
 from facl_commands.base.messages import Command, Failure
 from facl_commands.model.entries import entries_of
+from facl_commands.program.tools import ROWS
 from facl_commands.verbs import options, prepare, timer
+from facl_commands.verbs.command import EDITORS, check_quoted
 from facl_commands.verbs.table import ASKING, BY_VERB, MEANT, VERBS, parser_of, words_of
 from facl_commands.verbs.why import Step, WhyAnswer
 
@@ -234,6 +236,21 @@ class Verbs(VerbCase):
         done = self.verb("plan", "-e", "frob")
         self.assertEqual((done.status, done.messages[:52]),
                          (1, b"facl plan: standard input, line 1: facl: unknown tool"[:52]))
+
+    def test_a_line_of_edits_that_is_not_quoted(self) -> None:
+        line = "setfacl -m u:guest:r " + NOTES
+        text = b"a line of edits is one word, the value of -e: facl plan -e 'setfacl ...'"
+        for words in (line.split(), ["-e", *line.split()], [line], ["-q", "--edit", *line.split()], ["-qe", "setfacl", "-m"],
+                      ["-s", "new", line]):
+            with self.assertRaises(Failure) as caught:
+                check_quoted(words)
+            self.assertEqual(caught.exception.text, text)
+        self.expect(self.verb("plan", *line.split()), 2, b"", b"facl plan: " + text + b"\n")
+        with mock.patch.object(os.path, "lexists", return_value=True):
+            check_quoted(["rm", "-q"])  # A file of edits with the name of a tool.
+        for words in (["edits", "-o", "chmod"], ["-o", "rm", "edits"], ["-qe", line], ["-e", line, "--edit", line]):
+            check_quoted(words)
+        self.assertLessEqual(EDITORS, {*(it.name.decode() for it in ROWS), "chown", "chgrp"})
 
     def test_pages(self) -> None:
         for words in (["page"], ["review", "/srv/project"], ["audit", "-s", "old"], ["diff", "old", "new"]):

@@ -90,7 +90,8 @@ def nothing_to_do(command: Command, way: Direction) -> bool:
     if not way.work.files:
         command.say(name + b": changes no file")
     elif way.is_undo and way.state in (b"", plan_folder.UNDONE):
-        command.say(name + b": was not applied; there is nothing to undo")
+        why = b"was taken back already" if way.state else b"was not applied"
+        command.say(name + b": " + why + b"; there is nothing to undo")
     elif not way.is_undo and way.state == plan_folder.APPLIED:
         command.say(name + b": was applied already; facl undo takes it back")
     else:

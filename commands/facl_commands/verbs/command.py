@@ -18,6 +18,8 @@ from .table import BY_VERB, CHANGING, Verb, no_verb, parser_of, values_of, words
 
 PACKAGE = __package__.rpartition(".")[0]
 ORIGIN = os.path.join(HOME, "origin")  # What is known of the installed programs.
+# Tools that change something, each with words after it.
+EDITORS = frozenset("chacl chgrp chmod chown creat gpasswd rm setattr setfacl useradd userdel usermod".split())
 NOT_INSTALLED = "It runs from a clone, which does not say whether its programs were proved.\n"
 
 
@@ -57,6 +59,17 @@ def read_line(words: List[str]) -> VerbLine:
     if first in BY_VERB:
         return VerbLine(BY_VERB[first], before + after)
     raise no_verb(first)
+
+
+def check_quoted(words: List[str]) -> None:
+    """Fails for a line of edits that is no value of -e, or that the shell cut into words."""
+    for before, word, after in zip(["", *words], words, [*words[1:], ""]):
+        tool, blank, _ = word.partition(" ")
+        is_value = before.startswith("-") and takes_next(before)
+        is_edit = is_value and (before == "--edit" or before[:2] != "--" and before.endswith("e"))
+        is_cut = not blank and bool(after) and (is_edit or not is_value)
+        if tool in EDITORS and (is_cut or blank and not is_value) and (is_edit or not os.path.lexists(word)):
+            raise Failure(b"a line of edits is one word, the value of -e: facl plan -e '%s ...'" % tool.encode())
 
 
 def paths_in(verb: Verb, given: argparse.Namespace) -> List[str]:
@@ -106,6 +119,8 @@ def body(command: Command, words: List[str]) -> int:
     verb, rest = read_line(["help"] if is_help else words)
     command.name = b"facl " + verb.name.encode()
     command.goes_on = verb.goes_on
+    if verb.name == "plan":
+        check_quoted(rest)
     given = parser_of(verb).parse_intermixed_args(rest)
     if verb.is_watched:
         Runs(command, verb).start(os.isatty(2) and not getattr(given, "quiet", False))

@@ -10,7 +10,7 @@ from ..base.messages import Command
 from ..base.names import json_name, json_text, write_name
 from ..base.tables import Column, Table, paged, write_table
 from ..model import meta
-from .store import Stored, age_text, place, snapshots_in
+from .store import Stored, age_text, none_there, place, snapshots_in
 
 SCHEMA = "facl-snapshots/1"
 COLUMNS = tuple(Column(name, name in ("FILES", "USERS")) for name in (
@@ -49,5 +49,5 @@ def body(command: Command, given: argparse.Namespace) -> int:
         with paged(command, not given.no_pager):
             write_table(command, given, Table(COLUMNS, [row_of(it, b"" if given.tsv else b"-") for it in found]))
     else:
-        command.tell(place() + b": has no snapshot")
+        command.tell(none_there())
     return SOME if found else NONE

@@ -218,6 +218,11 @@ def named(word: bytes) -> Stored:
     return found[0] if found else read_snapshot_folder(word, word) or Stored(word, word, meta.UNKNOWN, [], b"")
 
 
+def none_there() -> bytes:
+    """Says that the store has no snapshot, and how to make one."""
+    return place() + b": has no snapshot; make one%s: facl snapshot FOLDER" % (b", as root" * (place() == OF_ROOT))
+
+
 def newest() -> Stored:
     """The newest whole snapshot of this host."""
     stored = snapshots_in(place())
@@ -227,8 +232,7 @@ def newest() -> Stored:
     others = [it for it in stored if not it.fault]
     if others:
         raise Failure(place() + b": has no snapshot of this host; name one with -s: " + few(others))
-    by_whom = b", as root" * (place() == OF_ROOT)
-    raise Failure(place() + b": has no snapshot; make one%s: facl snapshot FOLDER" % by_whom)
+    raise Failure(none_there())
 
 
 def chosen(given: Optional[str]) -> Stored:
@@ -277,12 +281,24 @@ def notes(stored: Stored) -> Iterator[bytes]:
         yield b"the snapshot %s is of the host %s, not of this one" % (stored.name, stored.about.host)
 
 
+def whole_name(word: bytes) -> bytes:
+    """The name from the root on of a file that a person names from where the command runs; the word itself where that is gone."""
+    try:
+        return os.path.abspath(word) if word[:1] != b"/" else word
+    except OSError:
+        return word
+
+
 def check_paths(stored: Stored, words: List[bytes], option: bytes = b"-s") -> None:
     """Fails for a path that the snapshot does not have; says what it has, and which snapshots, for an option, have the path."""
     for word in words:
         if not word or stored.has(word) is not False:
             continue
         others = [it for it in snapshots_in(place()) if not it.fault and it.has(word)]
-        instead = b"; these have it, for %s: " % option + few(others) if others else b"; to record it: facl snapshot " + word
+        whole = whole_name(word)
+        if whole != word and stored.has(whole):
+            instead = b"; give the whole name: " + whole
+        else:
+            instead = b"; these have it, for %s: " % option + few(others) if others else b"; to record it: facl snapshot " + whole
         tops = b", ".join(map(live_name, map(read_path, stored.about.folders)))
         raise Failure(word + b": is not in the snapshot %s, which has " % stored.name + tops + instead)
