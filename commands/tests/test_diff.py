@@ -416,7 +416,7 @@ class Snapshots(DiffCase):
             self.write("before/marks", before)
             self.write("after/marks", after)
             done = self.diff()
-            self.assertEqual((done.status, done.out), (1, NOTHING), done.messages)
+            self.assertEqual((done.status, done.out), (1, NOTHING.replace(b" differs", b" else differs")), done.messages)
             self.assertIn(said % text, done.messages)
 
     def test_a_dump_with_names(self) -> None:

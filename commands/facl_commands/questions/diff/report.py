@@ -147,7 +147,7 @@ def summary(compared: Compared) -> List[bytes]:
                       (len(users[2]), b"with another id", users[2])),
              *numbers(b"memberships", (people.joined, b"new", []), (people.left, b"gone", []))]
     if not parts:
-        return [b"nothing differs: the same users, groups of users, files and ACLs"]
+        return [b"nothing %sdiffers: the same users, groups of users, files and ACLs" % (b"else " * compared.has_other_marks)]
     parts = [b"nobody gained or lost anything"] * (not compared.rows) + parts
     line = b"; ".join(parts)
     return [line] if len(line) <= LONGEST else parts
